@@ -1,0 +1,205 @@
+// The operand shape of each mnemonic: which letters it takes, whether it uses p and q, and what they must name.
+ghost use mathlib.Core.Path.{_≡_};
+ghost use mathlib.Core.List.{map};
+ghost use Rattle.sheet.specs.Shapes.{mnemonics, shape-of, name-of, named, find, Names-are-apart};
+use crate::mnemonic::Mnemonic;
+
+// The letters T and T2 that an instruction may have.
+#[derive(Clone, Copy, Drop)]
+pub enum Letters {
+    Nothing, // neither is used
+    Number,  // T is i or r
+    Every,   // T is any kind
+    Ordinal, // T is a, c or i
+    Reads,   // T is b, c, i or r
+    Pair,    // T and T2 are i r, r i, c i or i c
+}
+
+// What the operands must name.
+#[derive(Clone, Copy, Drop)]
+pub enum Rule {
+    Free,      // any number
+    Constant,  // q is a constant of kind T
+    Global,    // q is a data cell of kind T of procedure 0
+    Local,     // q is a data cell of kind T of the p-th ancestor, or its result
+    Address,   // q is a data cell of the p-th ancestor
+    Label,     // q is in the same procedure, and not its first instruction
+    Link,      // the p-th ancestor exists
+    Call,      // q is the first instruction of a procedure other than 0 with p parameters
+    Enter,     // p is 0 to 40, q the size of the frame
+    Function,  // only in a procedure with a result
+    Procedure, // only in a procedure other than 0 without one
+}
+
+#[derive(Clone, Copy, Drop)]
+pub struct Shape {
+    pub letters: Letters,
+    pub p: bool,
+    pub q: bool,
+    pub rule: Rule,
+}
+
+const SHAPES: [Shape; 38] = [
+    Shape { letters: Letters::Number, p: false, q: false, rule: Rule::Free },
+    Shape { letters: Letters::Number, p: false, q: false, rule: Rule::Free },
+    Shape { letters: Letters::Number, p: false, q: false, rule: Rule::Free },
+    Shape { letters: Letters::Number, p: false, q: false, rule: Rule::Free },
+    Shape { letters: Letters::Number, p: false, q: false, rule: Rule::Free },
+    Shape { letters: Letters::Nothing, p: false, q: false, rule: Rule::Free },
+    Shape { letters: Letters::Nothing, p: false, q: false, rule: Rule::Free },
+    Shape { letters: Letters::Nothing, p: false, q: false, rule: Rule::Free },
+    Shape { letters: Letters::Every, p: false, q: false, rule: Rule::Free },
+    Shape { letters: Letters::Every, p: false, q: false, rule: Rule::Free },
+    Shape { letters: Letters::Every, p: false, q: false, rule: Rule::Free },
+    Shape { letters: Letters::Every, p: false, q: false, rule: Rule::Free },
+    Shape { letters: Letters::Every, p: false, q: false, rule: Rule::Free },
+    Shape { letters: Letters::Every, p: false, q: false, rule: Rule::Free },
+    Shape { letters: Letters::Every, p: false, q: true, rule: Rule::Constant },
+    Shape { letters: Letters::Every, p: false, q: true, rule: Rule::Global },
+    Shape { letters: Letters::Every, p: false, q: true, rule: Rule::Global },
+    Shape { letters: Letters::Every, p: true, q: true, rule: Rule::Local },
+    Shape { letters: Letters::Every, p: true, q: true, rule: Rule::Local },
+    Shape { letters: Letters::Nothing, p: true, q: true, rule: Rule::Address },
+    Shape { letters: Letters::Every, p: false, q: false, rule: Rule::Free },
+    Shape { letters: Letters::Every, p: false, q: false, rule: Rule::Free },
+    Shape { letters: Letters::Every, p: false, q: false, rule: Rule::Free },
+    Shape { letters: Letters::Nothing, p: false, q: true, rule: Rule::Free },
+    Shape { letters: Letters::Ordinal, p: false, q: true, rule: Rule::Free },
+    Shape { letters: Letters::Ordinal, p: false, q: true, rule: Rule::Free },
+    Shape { letters: Letters::Nothing, p: true, q: true, rule: Rule::Free },
+    Shape { letters: Letters::Nothing, p: false, q: true, rule: Rule::Label },
+    Shape { letters: Letters::Nothing, p: false, q: true, rule: Rule::Label },
+    Shape { letters: Letters::Reads, p: false, q: false, rule: Rule::Free },
+    Shape { letters: Letters::Every, p: false, q: false, rule: Rule::Free },
+    Shape { letters: Letters::Pair, p: false, q: false, rule: Rule::Free },
+    Shape { letters: Letters::Nothing, p: true, q: false, rule: Rule::Link },
+    Shape { letters: Letters::Nothing, p: true, q: true, rule: Rule::Call },
+    Shape { letters: Letters::Nothing, p: true, q: true, rule: Rule::Enter },
+    Shape { letters: Letters::Nothing, p: false, q: false, rule: Rule::Function },
+    Shape { letters: Letters::Nothing, p: false, q: false, rule: Rule::Procedure },
+    Shape { letters: Letters::Nothing, p: false, q: false, rule: Rule::Free },
+];
+
+// The four columns of each name: the checker computes no row that holds an array, so names stand beside the shapes.
+const NAMES: [[u8; 4]; 38] = [
+    *b"add ",
+    *b"sub ",
+    *b"mul ",
+    *b"div ",
+    *b"neg ",
+    *b"and ",
+    *b"or  ",
+    *b"not ",
+    *b"equ ",
+    *b"neq ",
+    *b"les ",
+    *b"leq ",
+    *b"grt ",
+    *b"geq ",
+    *b"ldc ",
+    *b"ldo ",
+    *b"sro ",
+    *b"lod ",
+    *b"str ",
+    *b"lda ",
+    *b"ind ",
+    *b"sto ",
+    *b"dpl ",
+    *b"ixa ",
+    *b"inc ",
+    *b"dec ",
+    *b"chk ",
+    *b"ujp ",
+    *b"fjp ",
+    *b"in  ",
+    *b"out ",
+    *b"conv",
+    *b"mst ",
+    *b"cup ",
+    *b"ent ",
+    *b"retf",
+    *b"retp",
+    *b"hlt ",
+];
+
+const MNEMONICS: [Mnemonic; 38] = [
+    Mnemonic::Add,
+    Mnemonic::Sub,
+    Mnemonic::Mul,
+    Mnemonic::Div,
+    Mnemonic::Neg,
+    Mnemonic::And,
+    Mnemonic::Or,
+    Mnemonic::Not,
+    Mnemonic::Equ,
+    Mnemonic::Neq,
+    Mnemonic::Les,
+    Mnemonic::Leq,
+    Mnemonic::Grt,
+    Mnemonic::Geq,
+    Mnemonic::Ldc,
+    Mnemonic::Ldo,
+    Mnemonic::Sro,
+    Mnemonic::Lod,
+    Mnemonic::Str,
+    Mnemonic::Lda,
+    Mnemonic::Ind,
+    Mnemonic::Sto,
+    Mnemonic::Dpl,
+    Mnemonic::Ixa,
+    Mnemonic::Inc,
+    Mnemonic::Dec,
+    Mnemonic::Chk,
+    Mnemonic::Ujp,
+    Mnemonic::Fjp,
+    Mnemonic::In,
+    Mnemonic::Out,
+    Mnemonic::Conv,
+    Mnemonic::Mst,
+    Mnemonic::Cup,
+    Mnemonic::Ent,
+    Mnemonic::Retf,
+    Mnemonic::Retp,
+    Mnemonic::Hlt,
+];
+
+impl Mnemonic {
+    pub fn shape(self) -> Shape
+        ensures { λ r. ⌜ r ≡ shape-of self ⌝ }
+    {
+        SHAPES[self as usize]
+    }
+
+    // Its name, padded with blanks at the right.
+    pub fn name(self) -> [u8; 4]
+        ensures { λ r. ⌜ r ≡ name-of self ⌝ }
+    {
+        NAMES[self as usize]
+    }
+
+    // The mnemonic with this name.
+    pub fn by_name(name: [u8; 4]) -> Option<Mnemonic>
+        ensures value { λ r. ⌜ r ≡ named name ⌝ }
+        ensures apart { λ _. ⌜ Names-are-apart ⌝ }
+    {
+        find_in(&MNEMONICS, name)
+    }
+}
+
+fn find_in(mnemonics: &[Mnemonic], text: [u8; 4]) -> Option<Mnemonic>
+    ensures { λ r. ⌜ r ≡ find (now (mnemonics .entry)) text ⌝ }
+{
+    for m in mnemonics {
+        if text == m.name() {
+            return Some(*m);
+        }
+    }
+    None
+}
+
+// The whole table, in the order of the mnemonics.
+pub fn shapes() -> [Shape; 38]
+    ensures { λ r. ⌜ r ≡ map shape-of mnemonics ⌝ }
+{
+    SHAPES
+}
