@@ -60,7 +60,7 @@ one-more : (ms : List Mnemonic) (s : List ℕ) (i : ℕ) (d : Mnemonic) (b : Boo
     → cond b (Some (getD ms i d)) (find (drop (i + 1) ms) s) ≡ find ms s
 one-more ms s i d b h q e =
     ap (λ t. cond t (Some (getD ms i d)) (find (drop (i + 1) ms) s))
-       (same-from-decides b (sameBytes s (name-of (getD ms i d))) q (sameBytes-decides s (name-of (getD ms i d))))
+    (same-from-decides b (sameBytes s (name-of (getD ms i d))) q (sameBytes-decides s (name-of (getD ms i d))))
     ∙ sym (at-drop-more (λ l. find l s) ms i d h) ∙ e
 
 -- the search comes out the same by either answer of the test

@@ -4,11 +4,11 @@ ghost use Rattle.sheet.specs.Kinds.{letter-of};
 // The five kinds of values.
 #[derive(Clone, Copy, PartialEq, Eq, Debug, Drop)]
 pub enum Kind {
-    Address,   // a: a place in the store
-    Boolean,   // b
+    Address, // a: a place in the store
+    Boolean, // b
     Character, // c: 0 to 255
-    Integer,   // i: -2,147,483,648 to 2,147,483,647
-    Real,      // r: a finite 64-bit IEEE 754 number
+    Integer, // i: -2,147,483,648 to 2,147,483,647
+    Real, // r: a finite 64-bit IEEE 754 number
 }
 
 impl Kind {

@@ -47,19 +47,19 @@ pub enum Conversion {
 #[derive(Clone, Copy, Drop)]
 pub enum Binary {
     Arithmetic(Arithmetic, Numeric), // (N, N) -> (N)
-    And,                             // (b, b) -> (b)
-    Or,                              // (b, b) -> (b)
-    Compare(Relation, Kind),         // (T, T) -> (b)
-    Index(i32),                      // (a, i) -> (a): a + i * q
+    And, // (b, b) -> (b)
+    Or, // (b, b) -> (b)
+    Compare(Relation, Kind), // (T, T) -> (b)
+    Index(i32), // (a, i) -> (a): a + i * q
 }
 
 // One value taken, one given.
 #[derive(Clone, Copy, Drop)]
 pub enum Unary {
-    Negate(Numeric),         // (N) -> (N)
-    Not,                     // (b) -> (b)
+    Negate(Numeric), // (N) -> (N)
+    Not, // (b) -> (b)
     Increment(Ordinal, i32), // (T) -> (T): q more
     Decrement(Ordinal, i32), // (T) -> (T): q less
-    Check(i32, i32),         // (i) -> (i): from p to q
-    Convert(Conversion),     // (T) -> (T2)
+    Check(i32, i32), // (i) -> (i): from p to q
+    Convert(Conversion), // (T) -> (T2)
 }

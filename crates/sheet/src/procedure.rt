@@ -1,9 +1,9 @@
 ghost use mathlib.Core.Path.{_≡_};
 ghost use Rattle.sheet.specs.Tables.{entry-of};
 use crate::kind::Kind;
-use crate::place::CodePlace;
 use crate::kind::KindDebug;
 use crate::kind::KindPartialEq;
+use crate::place::CodePlace;
 
 // A procedure. Its data cells are the `count` kinds from `offset` on in the table's list of cells,
 // at offsets 5 and up in its frame; the first `parameters` of them are its parameters.

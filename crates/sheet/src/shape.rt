@@ -8,26 +8,26 @@ use crate::mnemonic::Mnemonic;
 #[derive(Clone, Copy, Drop)]
 pub enum Letters {
     Nothing, // neither is used
-    Number,  // T is i or r
-    Every,   // T is any kind
+    Number, // T is i or r
+    Every, // T is any kind
     Ordinal, // T is a, c or i
-    Reads,   // T is b, c, i or r
-    Pair,    // T and T2 are i r, r i, c i or i c
+    Reads, // T is b, c, i or r
+    Pair, // T and T2 are i r, r i, c i or i c
 }
 
 // What the operands must name.
 #[derive(Clone, Copy, Drop)]
 pub enum Rule {
-    Free,      // any number
-    Constant,  // q is a constant of kind T
-    Global,    // q is a data cell of kind T of procedure 0
-    Local,     // q is a data cell of kind T of the p-th ancestor, or its result
-    Address,   // q is a data cell of the p-th ancestor
-    Label,     // q is in the same procedure, and not its first instruction
-    Link,      // the p-th ancestor exists
-    Call,      // q is the first instruction of a procedure other than 0 with p parameters
-    Enter,     // p is 0 to 40, q the size of the frame
-    Function,  // only in a procedure with a result
+    Free, // any number
+    Constant, // q is a constant of kind T
+    Global, // q is a data cell of kind T of procedure 0
+    Local, // q is a data cell of kind T of the p-th ancestor, or its result
+    Address, // q is a data cell of the p-th ancestor
+    Label, // q is in the same procedure, and not its first instruction
+    Link, // the p-th ancestor exists
+    Call, // q is the first instruction of a procedure other than 0 with p parameters
+    Enter, // p is 0 to 40, q the size of the frame
+    Function, // only in a procedure with a result
     Procedure, // only in a procedure other than 0 without one
 }
 
@@ -40,44 +40,234 @@ pub struct Shape {
 }
 
 const SHAPES: [Shape; 38] = [
-    Shape { letters: Letters::Number, p: false, q: false, rule: Rule::Free },
-    Shape { letters: Letters::Number, p: false, q: false, rule: Rule::Free },
-    Shape { letters: Letters::Number, p: false, q: false, rule: Rule::Free },
-    Shape { letters: Letters::Number, p: false, q: false, rule: Rule::Free },
-    Shape { letters: Letters::Number, p: false, q: false, rule: Rule::Free },
-    Shape { letters: Letters::Nothing, p: false, q: false, rule: Rule::Free },
-    Shape { letters: Letters::Nothing, p: false, q: false, rule: Rule::Free },
-    Shape { letters: Letters::Nothing, p: false, q: false, rule: Rule::Free },
-    Shape { letters: Letters::Every, p: false, q: false, rule: Rule::Free },
-    Shape { letters: Letters::Every, p: false, q: false, rule: Rule::Free },
-    Shape { letters: Letters::Every, p: false, q: false, rule: Rule::Free },
-    Shape { letters: Letters::Every, p: false, q: false, rule: Rule::Free },
-    Shape { letters: Letters::Every, p: false, q: false, rule: Rule::Free },
-    Shape { letters: Letters::Every, p: false, q: false, rule: Rule::Free },
-    Shape { letters: Letters::Every, p: false, q: true, rule: Rule::Constant },
-    Shape { letters: Letters::Every, p: false, q: true, rule: Rule::Global },
-    Shape { letters: Letters::Every, p: false, q: true, rule: Rule::Global },
-    Shape { letters: Letters::Every, p: true, q: true, rule: Rule::Local },
-    Shape { letters: Letters::Every, p: true, q: true, rule: Rule::Local },
-    Shape { letters: Letters::Nothing, p: true, q: true, rule: Rule::Address },
-    Shape { letters: Letters::Every, p: false, q: false, rule: Rule::Free },
-    Shape { letters: Letters::Every, p: false, q: false, rule: Rule::Free },
-    Shape { letters: Letters::Every, p: false, q: false, rule: Rule::Free },
-    Shape { letters: Letters::Nothing, p: false, q: true, rule: Rule::Free },
-    Shape { letters: Letters::Ordinal, p: false, q: true, rule: Rule::Free },
-    Shape { letters: Letters::Ordinal, p: false, q: true, rule: Rule::Free },
-    Shape { letters: Letters::Nothing, p: true, q: true, rule: Rule::Free },
-    Shape { letters: Letters::Nothing, p: false, q: true, rule: Rule::Label },
-    Shape { letters: Letters::Nothing, p: false, q: true, rule: Rule::Label },
-    Shape { letters: Letters::Reads, p: false, q: false, rule: Rule::Free },
-    Shape { letters: Letters::Every, p: false, q: false, rule: Rule::Free },
-    Shape { letters: Letters::Pair, p: false, q: false, rule: Rule::Free },
-    Shape { letters: Letters::Nothing, p: true, q: false, rule: Rule::Link },
-    Shape { letters: Letters::Nothing, p: true, q: true, rule: Rule::Call },
-    Shape { letters: Letters::Nothing, p: true, q: true, rule: Rule::Enter },
-    Shape { letters: Letters::Nothing, p: false, q: false, rule: Rule::Function },
-    Shape { letters: Letters::Nothing, p: false, q: false, rule: Rule::Procedure },
-    Shape { letters: Letters::Nothing, p: false, q: false, rule: Rule::Free },
+    Shape {
+        letters: Letters::Number,
+        p: false,
+        q: false,
+        rule: Rule::Free,
+    },
+    Shape {
+        letters: Letters::Number,
+        p: false,
+        q: false,
+        rule: Rule::Free,
+    },
+    Shape {
+        letters: Letters::Number,
+        p: false,
+        q: false,
+        rule: Rule::Free,
+    },
+    Shape {
+        letters: Letters::Number,
+        p: false,
+        q: false,
+        rule: Rule::Free,
+    },
+    Shape {
+        letters: Letters::Number,
+        p: false,
+        q: false,
+        rule: Rule::Free,
+    },
+    Shape {
+        letters: Letters::Nothing,
+        p: false,
+        q: false,
+        rule: Rule::Free,
+    },
+    Shape {
+        letters: Letters::Nothing,
+        p: false,
+        q: false,
+        rule: Rule::Free,
+    },
+    Shape {
+        letters: Letters::Nothing,
+        p: false,
+        q: false,
+        rule: Rule::Free,
+    },
+    Shape {
+        letters: Letters::Every,
+        p: false,
+        q: false,
+        rule: Rule::Free,
+    },
+    Shape {
+        letters: Letters::Every,
+        p: false,
+        q: false,
+        rule: Rule::Free,
+    },
+    Shape {
+        letters: Letters::Every,
+        p: false,
+        q: false,
+        rule: Rule::Free,
+    },
+    Shape {
+        letters: Letters::Every,
+        p: false,
+        q: false,
+        rule: Rule::Free,
+    },
+    Shape {
+        letters: Letters::Every,
+        p: false,
+        q: false,
+        rule: Rule::Free,
+    },
+    Shape {
+        letters: Letters::Every,
+        p: false,
+        q: false,
+        rule: Rule::Free,
+    },
+    Shape {
+        letters: Letters::Every,
+        p: false,
+        q: true,
+        rule: Rule::Constant,
+    },
+    Shape {
+        letters: Letters::Every,
+        p: false,
+        q: true,
+        rule: Rule::Global,
+    },
+    Shape {
+        letters: Letters::Every,
+        p: false,
+        q: true,
+        rule: Rule::Global,
+    },
+    Shape {
+        letters: Letters::Every,
+        p: true,
+        q: true,
+        rule: Rule::Local,
+    },
+    Shape {
+        letters: Letters::Every,
+        p: true,
+        q: true,
+        rule: Rule::Local,
+    },
+    Shape {
+        letters: Letters::Nothing,
+        p: true,
+        q: true,
+        rule: Rule::Address,
+    },
+    Shape {
+        letters: Letters::Every,
+        p: false,
+        q: false,
+        rule: Rule::Free,
+    },
+    Shape {
+        letters: Letters::Every,
+        p: false,
+        q: false,
+        rule: Rule::Free,
+    },
+    Shape {
+        letters: Letters::Every,
+        p: false,
+        q: false,
+        rule: Rule::Free,
+    },
+    Shape {
+        letters: Letters::Nothing,
+        p: false,
+        q: true,
+        rule: Rule::Free,
+    },
+    Shape {
+        letters: Letters::Ordinal,
+        p: false,
+        q: true,
+        rule: Rule::Free,
+    },
+    Shape {
+        letters: Letters::Ordinal,
+        p: false,
+        q: true,
+        rule: Rule::Free,
+    },
+    Shape {
+        letters: Letters::Nothing,
+        p: true,
+        q: true,
+        rule: Rule::Free,
+    },
+    Shape {
+        letters: Letters::Nothing,
+        p: false,
+        q: true,
+        rule: Rule::Label,
+    },
+    Shape {
+        letters: Letters::Nothing,
+        p: false,
+        q: true,
+        rule: Rule::Label,
+    },
+    Shape {
+        letters: Letters::Reads,
+        p: false,
+        q: false,
+        rule: Rule::Free,
+    },
+    Shape {
+        letters: Letters::Every,
+        p: false,
+        q: false,
+        rule: Rule::Free,
+    },
+    Shape {
+        letters: Letters::Pair,
+        p: false,
+        q: false,
+        rule: Rule::Free,
+    },
+    Shape {
+        letters: Letters::Nothing,
+        p: true,
+        q: false,
+        rule: Rule::Link,
+    },
+    Shape {
+        letters: Letters::Nothing,
+        p: true,
+        q: true,
+        rule: Rule::Call,
+    },
+    Shape {
+        letters: Letters::Nothing,
+        p: true,
+        q: true,
+        rule: Rule::Enter,
+    },
+    Shape {
+        letters: Letters::Nothing,
+        p: false,
+        q: false,
+        rule: Rule::Function,
+    },
+    Shape {
+        letters: Letters::Nothing,
+        p: false,
+        q: false,
+        rule: Rule::Procedure,
+    },
+    Shape {
+        letters: Letters::Nothing,
+        p: false,
+        q: false,
+        rule: Rule::Free,
+    },
 ];
 
 // The four columns of each name: the checker computes no row that holds an array, so names stand beside the shapes.
