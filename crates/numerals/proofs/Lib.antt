@@ -1,0 +1,4 @@
+mod Reading
+mod Writing
+mod Splits
+pub mod Laws
