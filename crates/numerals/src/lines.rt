@@ -1,6 +1,6 @@
 ghost use mathlib.Core.Path.{_≡_};
 ghost use mathlib.Core.List.{[], _∷_, _++_};
-ghost use Prim.Native.Nat.{_≤_, _<_};
+ghost use Prim.Native.Nat.{_+_, _≤_, _<_};
 ghost use lib.ListN.{length, take, drop};
 ghost use Rattle.numerals.specs.Lines.{lines as split};
 
@@ -24,6 +24,7 @@ pub fn split_line(text: &[u8]) -> (&[u8], &[u8])
     ensures parts { λ r. ⌜ now (text .entry) ≡ now (r .0) ++ now (r .1) ⌝ }
     ensures first { λ r. ⌜ (0 < length (now (text .entry)) → split (now (text .entry)) ≡ now (r .0) ∷ split (now (r .1))) ⌝ }
     ensures some { λ r. ⌜ (0 < length (now (text .entry)) → 0 < length (now (r .0))) ⌝ }
+    ensures len { λ r. ⌜ length (now (r .0)) + length (now (r .1)) ≡ length (now (text .entry)) ⌝ }
 {
     if text.is_empty() {
         return (text, text);

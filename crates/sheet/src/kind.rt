@@ -13,15 +13,15 @@ pub enum Kind {
 
 impl Kind {
     // The letter that stands for it in text.
-    pub fn letter(self) -> char
+    pub fn letter(self) -> u8
         ensures { λ r. ⌜ r ≡ letter-of self ⌝ }
     {
         match self {
-            Kind::Address => 'a',
-            Kind::Boolean => 'b',
-            Kind::Character => 'c',
-            Kind::Integer => 'i',
-            Kind::Real => 'r',
+            Kind::Address => b'a',
+            Kind::Boolean => b'b',
+            Kind::Character => b'c',
+            Kind::Integer => b'i',
+            Kind::Real => b'r',
         }
     }
 }

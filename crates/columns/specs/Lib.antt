@@ -1,0 +1,7 @@
+pub mod Faults
+pub mod Letters
+pub mod Scans
+pub mod TableLines
+pub mod TableText
+pub mod ValueLaws
+pub mod ValueLines
