@@ -16,27 +16,27 @@ use Rattle.columns.specs.TableText.{Said, counted}
 
 -- the first line l of s passes, and r is the rest
 pub scan-more : {C X : Type 0} (read : List ℕ → X) (count : C → X → C) (test : C → X → Bool) (c d : C) (n : ℕ) (s l r : List ℕ) (x : X) (b : Bool) (whole : Option ℕ)
-  → lines s ≡ l ∷ lines r → x ≡ read l → b ≡ test c x → b ≡ true → d ≡ count c x
-  → first-failing count test c n (map read (lines s)) ≡ whole → first-failing count test d (n + 1) (map read (lines r)) ≡ whole
+    → lines s ≡ l ∷ lines r → x ≡ read l → b ≡ test c x → b ≡ true → d ≡ count c x
+    → first-failing count test c n (map read (lines s)) ≡ whole → first-failing count test d (n + 1) (map read (lines r)) ≡ whole
 scan-more {X = X} read count test c d n s l r x b whole h e t p q inv =
-  let at : X → Option ℕ = λ y. cond (test c y) (first-failing count test (count c y) (n + 1) (map read (lines r))) (Some n) in
-  ap (λ z. first-failing count test z (n + 1) (map read (lines r))) q
-  ∙ ap (λ z. cond z (first-failing count test (count c x) (n + 1) (map read (lines r))) (Some n)) (sym p ∙ t)
-  ∙ ap at e
-  ∙ sym (ap (λ ls. first-failing count test c n (map read ls)) h) ∙ inv
+    let at : X → Option ℕ = λ y. cond (test c y) (first-failing count test (count c y) (n + 1) (map read (lines r))) (Some n) in
+    ap (λ z. first-failing count test z (n + 1) (map read (lines r))) q
+    ∙ ap (λ z. cond z (first-failing count test (count c x) (n + 1) (map read (lines r))) (Some n)) (sym p ∙ t)
+    ∙ ap at e
+    ∙ sym (ap (λ ls. first-failing count test c n (map read ls)) h) ∙ inv
 
 -- it fails
 pub scan-found : {C X : Type 0} (read : List ℕ → X) (count : C → X → C) (test : C → X → Bool) (c : C) (n : ℕ) (s l r : List ℕ) (x : X) (b : Bool) (whole : Option ℕ)
-  → lines s ≡ l ∷ lines r → x ≡ read l → b ≡ test c x → b ≡ false
-  → first-failing count test c n (map read (lines s)) ≡ whole → Some n ≡ whole
+    → lines s ≡ l ∷ lines r → x ≡ read l → b ≡ test c x → b ≡ false
+    → first-failing count test c n (map read (lines s)) ≡ whole → Some n ≡ whole
 scan-found {X = X} read count test c n s l r x b whole h e t p inv =
-  let at : X → Option ℕ = λ y. cond (test c y) (first-failing count test (count c y) (n + 1) (map read (lines r))) (Some n) in
-  ap (λ z. cond z (first-failing count test (count c x) (n + 1) (map read (lines r))) (Some n)) (sym p ∙ t)
-  ∙ ap at e
-  ∙ sym (ap (λ ls. first-failing count test c n (map read ls)) h) ∙ inv
+    let at : X → Option ℕ = λ y. cond (test c y) (first-failing count test (count c y) (n + 1) (map read (lines r))) (Some n) in
+    ap (λ z. cond z (first-failing count test (count c x) (n + 1) (map read (lines r))) (Some n)) (sym p ∙ t)
+    ∙ ap at e
+    ∙ sym (ap (λ ls. first-failing count test c n (map read ls)) h) ∙ inv
 
 pub scan-done : {C X : Type 0} (read : List ℕ → X) (count : C → X → C) (test : C → X → Bool) (c : C) (n : ℕ) (s : List ℕ) (whole : Option ℕ)
-  → length s ≡ 0 → first-failing count test c n (map read (lines s)) ≡ whole → None ≡ whole
+    → length s ≡ 0 → first-failing count test c n (map read (lines s)) ≡ whole → None ≡ whole
 scan-done read count test c n [] whole e inv = inv
 scan-done read count test c n (b ∷ s) whole e inv = grind arith
 

@@ -17,18 +17,18 @@ use Rattle.columns.specs.Faults.{then}
 -- P, V, C
 abbrev pub line-letter : ℕ → Result LineKind LineFault
 line-letter c =
-  cond (eqb c 80) (Ok Procedure)
-  (cond (eqb c 86) (Ok Cell)
-  (cond (eqb c 67) (Ok Code) (Err Malformed)))
+    cond (eqb c 80) (Ok Procedure)
+    (cond (eqb c 86) (Ok Cell)
+    (cond (eqb c 67) (Ok Code) (Err Malformed)))
 
 -- a, b, c, i, r
 abbrev pub kind-letter : ℕ → Result Kind LineFault
 kind-letter c =
-  cond (eqb c 97) (Ok Address)
-  (cond (eqb c 98) (Ok Boolean)
-  (cond (eqb c 99) (Ok Character)
-  (cond (eqb c 105) (Ok Integer)
-  (cond (eqb c 114) (Ok Real) (Err Malformed)))))
+    cond (eqb c 97) (Ok Address)
+    (cond (eqb c 98) (Ok Boolean)
+    (cond (eqb c 99) (Ok Character)
+    (cond (eqb c 105) (Ok Integer)
+    (cond (eqb c 114) (Ok Real) (Err Malformed)))))
 
 -- and - for none
 abbrev pub optional-letter : ℕ → Result (Option Kind) LineFault

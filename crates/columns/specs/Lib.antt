@@ -1,4 +1,5 @@
 pub mod Faults
+pub mod Laying
 pub mod Letters
 pub mod Scans
 pub mod TableLines

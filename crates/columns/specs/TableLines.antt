@@ -51,11 +51,11 @@ mnemonic-in a b c d = okOr (named (a ∷ b ∷ c ∷ d ∷ [])) Malformed
 -- P, four numbers of 6 columns, the result's letter, and the end
 abbrev pub read-procedure : List ℕ → Result Heading LineFault
 read-procedure l =
-  cond (eqb (length l) 27)
+    cond (eqb (length l) 27)
     (then (number-in 1 6 l) (λ n. then (number-in 7 6 l) (λ p. then (number-in 13 6 l) (λ f. then (number-in 19 6 l) (λ k.
-     then (optional-letter (getD l 25 0)) (λ t. then (ending (getD l 26 0)) (λ _.
-     then (short n) (λ n. then (short p) (λ p. then (short f) (λ f. then (short k) (λ k.
-     Ok (record { number = n; parent = p; first = f; parameters = k; result = t }))))))))))))
+    then (optional-letter (getD l 25 0)) (λ t. then (ending (getD l 26 0)) (λ _.
+    then (short n) (λ n. then (short p) (λ p. then (short f) (λ f. then (short k) (λ k.
+    Ok (record { number = n; parent = p; first = f; parameters = k; result = t }))))))))))))
     (Err Malformed)
 
 -- V, a letter, and the end
@@ -65,13 +65,13 @@ read-cell l = cond (eqb (length l) 3) (then (kind-letter (getD l 1 0)) (λ t. th
 -- C, a number of 6 columns, a blank, the mnemonic in 4, T, T2, p and q in 12 each, and the end
 abbrev pub read-code : List ℕ → Result Line LineFault
 read-code l =
-  cond (eqb (length l) 39)
+    cond (eqb (length l) 39)
     (then (number-in 1 6 l) (λ n. then (blank-column (getD l 7 0)) (λ _.
-     then (mnemonic-in (getD l 8 0) (getD l 9 0) (getD l 10 0) (getD l 11 0)) (λ m.
-     then (optional-letter (getD l 12 0)) (λ t. then (optional-letter (getD l 13 0)) (λ u.
-     then (number-in 14 12 l) (λ p. then (number-in 26 12 l) (λ q. then (ending (getD l 38 0)) (λ _.
-     then (short n) (λ n. then (integer p) (λ p. then (integer q) (λ q.
-     Ok (Code n (record { mnemonic = m; t = t; t2 = u; p = p; q = q }))))))))))))))
+    then (mnemonic-in (getD l 8 0) (getD l 9 0) (getD l 10 0) (getD l 11 0)) (λ m.
+    then (optional-letter (getD l 12 0)) (λ t. then (optional-letter (getD l 13 0)) (λ u.
+    then (number-in 14 12 l) (λ p. then (number-in 26 12 l) (λ q. then (ending (getD l 38 0)) (λ _.
+    then (short n) (λ n. then (integer p) (λ p. then (integer q) (λ q.
+    Ok (Code n (record { mnemonic = m; t = t; t2 = u; p = p; q = q }))))))))))))))
     (Err Malformed)
 
 abbrev pub read-as : LineKind → List ℕ → Result Line LineFault

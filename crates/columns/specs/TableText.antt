@@ -111,12 +111,24 @@ contents xs = record { procedures = procedures-of 0 xs; cells = cells-of xs; cod
 abbrev pub first-fault : Scan → List ℕ → Option ℕ
 first-fault s text = first-failing counted (passes s) start 1 (lines-of text)
 
+-- the lowest number first, over the whole text
+abbrev pub verdict : Extent → List ℕ → Result (Unit {0}) TextFault
+verdict room text =
+    refuse Malformed (first-fault Form text)
+    (refuse Misplaced (first-fault Order text)
+    (refuse TooLong (first-fault (Room room) text)
+    (Ok tt)))
+
+abbrev pub read-by : Result (Unit {0}) TextFault → List ℕ → Result Contents TextFault
+read-by (Ok x) text = Ok (contents (lines-of text))
+read-by (Err f) text = Err f
+
 abbrev pub read-table : Extent → List ℕ → Result Contents TextFault
-read-table room text =
-  refuse Malformed (first-fault Form text)
-  (refuse Misplaced (first-fault Order text)
-  (refuse TooLong (first-fault (Room room) text)
-  (Ok (contents (lines-of text)))))
+read-table room text = read-by (verdict room text) text
+
+-- the room that three lists give
+abbrev pub room-of : List Procedure → List Kind → List Instruction → Extent
+room-of ps ts is = record { procedures = length ps; cells = length ts; code = length is }
 
 -- ---- what the call answers, and what it leaves in the lists
 abbrev pub extent-of : Contents → Extent

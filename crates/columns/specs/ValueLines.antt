@@ -43,14 +43,14 @@ real (negsuc n) = Err OutOfRange
 -- b, c, i, r
 abbrev pub value-of : ℕ → ℤ → Result Value LineFault
 value-of c z =
-  cond (eqb c 98) (boolean z)
-  (cond (eqb c 99) (character z)
-  (cond (eqb c 105) (integer z)
-  (cond (eqb c 114) (real z) (Err Malformed))))
+    cond (eqb c 98) (boolean z)
+    (cond (eqb c 99) (character z)
+    (cond (eqb c 105) (integer z)
+    (cond (eqb c 114) (real z) (Err Malformed))))
 
 abbrev pub read-value : List ℕ → Result Value LineFault
 read-value l =
-  cond (eqb (length l) 22)
+    cond (eqb (length l) 22)
     (then (number-in 1 20 l) (λ z. then (ending (getD l 21 0)) (λ _. value-of (getD l 0 0) z)))
     (Err Malformed)
 

@@ -4,7 +4,7 @@ ghost use Rattle.columns.specs.Faults.{fault-number, fault-line};
 // What is wrong with a line by itself.
 #[derive(Clone, Copy, PartialEq, Eq, Debug, Drop)]
 pub enum LineFault {
-    Malformed,  // its length, a letter, the mnemonic or a column
+    Malformed, // its length, a letter, the mnemonic or a column
     OutOfRange, // a number that is well written
 }
 
@@ -13,7 +13,7 @@ pub enum LineFault {
 pub enum TextFault {
     Malformed(usize), // 11: a line of wrong length, letter, mnemonic or column
     Misplaced(usize), // 12: a number out of range, or a line out of order
-    TooLong(usize),   // 13: the list lent is too short for the text
+    TooLong(usize), // 13: the list lent is too short for the text
 }
 
 impl TextFault {

@@ -59,13 +59,21 @@ fn operand(n: i128) -> Result<i32, LineFault>
 pub(crate) fn line_end(byte: u8) -> Result<(), LineFault>
     ensures { λ r. ⌜ r ≡ ending byte ⌝ }
 {
-    if byte == b'\n' { Ok(()) } else { Err(LineFault::Malformed) }
+    if byte == b'\n' {
+        Ok(())
+    } else {
+        Err(LineFault::Malformed)
+    }
 }
 
 fn blank_column(byte: u8) -> Result<(), LineFault>
     ensures { λ r. ⌜ r ≡ blank-column byte ⌝ }
 {
-    if byte == b' ' { Ok(()) } else { Err(LineFault::Malformed) }
+    if byte == b' ' {
+        Ok(())
+    } else {
+        Err(LineFault::Malformed)
+    }
 }
 
 fn mnemonic_in(a: u8, b: u8, c: u8, d: u8) -> Result<Mnemonic, LineFault>
@@ -91,7 +99,13 @@ fn read_procedure(line: &[u8]) -> Result<Heading, LineFault>
     let parent = short(b)?;
     let first = short(c)?;
     let parameters = short(d)?;
-    Ok(Heading { number, parent, first, parameters, result })
+    Ok(Heading {
+        number,
+        parent,
+        first,
+        parameters,
+        result,
+    })
 }
 
 fn read_cell(line: &[u8]) -> Result<Kind, LineFault>
@@ -122,7 +136,16 @@ fn read_code(line: &[u8]) -> Result<Line, LineFault>
     let number = short(n)?;
     let p = operand(a)?;
     let q = operand(b)?;
-    Ok(Line::Code(number, Instruction { mnemonic, t, t2, p, q }))
+    Ok(Line::Code(
+        number,
+        Instruction {
+            mnemonic,
+            t,
+            t2,
+            p,
+            q,
+        },
+    ))
 }
 
 pub(crate) fn read_line(line: &[u8]) -> Result<Line, LineFault>

@@ -37,8 +37,8 @@ natural-read (c ∷ d ∷ ds) h l z = grind (arith, tells, digits-read 0 (c ∷ 
 natural-decimal : (n : ℕ) → n < 2 ^ 64 → natural (decimal n) ≡ Some n
 natural-decimal zero h = ap natural (decimal-digit 0 (omega arith))
 natural-decimal (suc n) h =
-  natural-read (decimal (suc n)) (digits-decimal own (suc n) h) (decimal-some (suc n) h) (λ z. omega (arith, first-decimal (suc n) (omega arith) h))
-  ∙ ap (λ m. Some m) (value-decimal own (suc n) h)
+    natural-read (decimal (suc n)) (digits-decimal own (suc n) h) (decimal-some (suc n) h) (λ z. omega (arith, first-decimal (suc n) (omega arith) h))
+    ∙ ap (λ m. Some m) (value-decimal own (suc n) h)
 
 -- a digit comes first, so neither a blank nor a minus
 whole-digits : (ds : List ℕ) → 0 < length ds → allDigits ds ≡ true → whole (after-blanks ds) ≡ plus (natural ds)
@@ -64,13 +64,13 @@ digits-are n (c ∷ cs) m e = grind (arith, tells, digits-are (n * 10 + (c - 48)
 
 natural-is : (ds : List ℕ) (n : ℕ) → n < 2 ^ 64 → natural ds ≡ Some n → decimal n ≡ ds
 natural-is [] n h e = grind arith
-natural-is (c ∷ []) n h e = 
-  let p : (allDigits (c ∷ []) ≡ true) × (readOn 0 (c ∷ []) ≡ n) = digits-are 0 (c ∷ []) n e in
-  ap decimal (sym (p .1)) ∙ decimal-value own (c ∷ []) (p .0) (omega arith) (λ _. refl) (omega (arith, p .1))
+natural-is (c ∷ []) n h e =
+    let p : (allDigits (c ∷ []) ≡ true) × (readOn 0 (c ∷ []) ≡ n) = digits-are 0 (c ∷ []) n e in
+    ap decimal (sym (p .1)) ∙ decimal-value own (c ∷ []) (p .0) (omega arith) (λ _. refl) (omega (arith, p .1))
 natural-is (c ∷ d ∷ ds) n h e =
-  let q : (c ≡ 48 → ⊥) × (digits-after 0 (c ∷ d ∷ ds) ≡ Some n) = grind (arith, tells) in
-  let p : (allDigits (c ∷ d ∷ ds) ≡ true) × (readOn 0 (c ∷ d ∷ ds) ≡ n) = digits-are 0 (c ∷ d ∷ ds) n (q .1) in
-  ap decimal (sym (p .1)) ∙ decimal-value own (c ∷ d ∷ ds) (p .0) (omega arith) (λ z. absurd (q .0 z)) (omega (arith, p .1))
+    let q : (c ≡ 48 → ⊥) × (digits-after 0 (c ∷ d ∷ ds) ≡ Some n) = grind (arith, tells) in
+    let p : (allDigits (c ∷ d ∷ ds) ≡ true) × (readOn 0 (c ∷ d ∷ ds) ≡ n) = digits-are 0 (c ∷ d ∷ ds) n (q .1) in
+    ap decimal (sym (p .1)) ∙ decimal-value own (c ∷ d ∷ ds) (p .0) (omega arith) (λ z. absurd (q .0 z)) (omega (arith, p .1))
 
 plus-is : (o : Option ℕ) (z : ℤ) → plus o ≡ Some z → (n : ℕ) × (o ≡ Some n) × (z ≡ pos n)
 plus-is None z e = grind arith
@@ -83,17 +83,17 @@ minus-is (Some (suc n)) z e = (n, refl, grind arith)
 
 up-is : (cs : List ℕ) (z : ℤ) → natAbs z < 2 ^ 64 → plus (natural cs) ≡ Some z → signed z ≡ cs
 up-is cs z h e =
-  let p = plus-is (natural cs) z e in
-  let s : signed z ≡ signed (pos (p .0)) = ap signed (p .2) in
-  let b : p .0 < 2 ^ 64 = omega (arith, ap natAbs (p .2)) in
-  s ∙ natural-is cs (p .0) b (p .1)
+    let p = plus-is (natural cs) z e in
+    let s : signed z ≡ signed (pos (p .0)) = ap signed (p .2) in
+    let b : p .0 < 2 ^ 64 = omega (arith, ap natAbs (p .2)) in
+    s ∙ natural-is cs (p .0) b (p .1)
 
 down-is : (cs : List ℕ) (z : ℤ) → natAbs z < 2 ^ 64 → minus (natural cs) ≡ Some z → signed z ≡ 45 ∷ cs
 down-is cs z h e =
-  let p = minus-is (natural cs) z e in
-  let s : signed z ≡ signed (negsuc (p .0)) = ap signed (p .2) in
-  let b : suc (p .0) < 2 ^ 64 = omega (arith, ap natAbs (p .2)) in
-  s ∙ ap (λ ds. 45 ∷ ds) (natural-is cs (suc (p .0)) b (p .1))
+    let p = minus-is (natural cs) z e in
+    let s : signed z ≡ signed (negsuc (p .0)) = ap signed (p .2) in
+    let b : suc (p .0) < 2 ^ 64 = omega (arith, ap natAbs (p .2)) in
+    s ∙ ap (λ ds. 45 ∷ ds) (natural-is cs (suc (p .0)) b (p .1))
 
 whole-is : (ds : List ℕ) (z : ℤ) → natAbs z < 2 ^ 64 → whole ds ≡ Some z → signed z ≡ ds
 whole-is [] z h e = grind arith
@@ -105,8 +105,8 @@ shorter (c ∷ cs) = grind (arith, tells, shorter cs)
 
 pad-cons : (c : ℕ) (cs ds : List ℕ) → c ≡ 32 → length ds ≤ length cs → replicate (length cs - length ds) 32 ++ ds ≡ cs → replicate (suc (length cs) - length ds) 32 ++ ds ≡ c ∷ cs
 pad-cons c cs ds e l p =
-  let k : suc (length cs) - length ds ≡ suc (length cs - length ds) = omega arith in
-  ap (λ j. replicate j 32 ++ ds) k ∙ ap (λ x. 32 ∷ x) p ∙ ap (λ x. x ∷ cs) (sym e)
+    let k : suc (length cs) - length ds ≡ suc (length cs - length ds) = omega arith in
+    ap (λ j. replicate j 32 ++ ds) k ∙ ap (λ x. 32 ∷ x) p ∙ ap (λ x. x ∷ cs) (sym e)
 
 pad-none : (ds : List ℕ) → replicate (length ds - length ds) 32 ++ ds ≡ ds
 pad-none ds = let k : length ds - length ds ≡ 0 = omega arith in ap (λ j. replicate j 32 ++ ds) k
@@ -117,5 +117,5 @@ padded (c ∷ cs) = grind (arith, tells, pad-cons c cs (after-blanks cs), pad-no
 
 pub read-numbers-write-back : Read-numbers-write-back
 read-numbers-write-back bs z h e =
-  let s = whole-is (after-blanks bs) z h e in
-  ap (λ ds. replicate (length bs - length ds) 32 ++ ds) s ∙ padded bs
+    let s = whole-is (after-blanks bs) z h e in
+    ap (λ ds. replicate (length bs - length ds) 32 ++ ds) s ∙ padded bs

@@ -20,10 +20,10 @@ ended : (s : List ℕ) (i : ℕ) → i < length s → Quiet s i → getD s i 0 �
 ended [] i h q e = grind arith
 ended (c ∷ cs) zero h q e = grind (arith, tells)
 ended (c ∷ cs) (suc i) h q e =
-  let r = quiet-rest c cs i q in
-  let ih : lines cs ≡ take (suc i) cs ∷ lines (drop (suc i) cs) = ended cs i (omega arith) (r .1) e in
-  let step : lines (c ∷ cs) ≡ onto c (lines cs) = let ne : c ≡ 10 → ⊥ = r .0 in grind (arith, tells) in
-  step ∙ ap (onto c) ih
+    let r = quiet-rest c cs i q in
+    let ih : lines cs ≡ take (suc i) cs ∷ lines (drop (suc i) cs) = ended cs i (omega arith) (r .1) e in
+    let step : lines (c ∷ cs) ≡ onto c (lines cs) = let ne : c ≡ 10 → ⊥ = r .0 in grind (arith, tells) in
+    step ∙ ap (onto c) ih
 
 pub line-ended : (s : List ℕ) (i : ℕ) → i < length s → Quiet s i → getD s i 0 ≡ 10 → lines s ≡ take (i + 1) s ∷ lines (drop (i + 1) s)
 line-ended s i h q e = rw (add-one i) (ended s i h q e)
@@ -32,16 +32,16 @@ open-line : (s : List ℕ) → 0 < length s → Quiet s (length s) → lines s �
 open-line [] h q = grind arith
 open-line (c ∷ []) h q = let ne : c ≡ 10 → ⊥ = q 0 (omega arith) in grind (arith, tells)
 open-line (c ∷ d ∷ ds) h q =
-  let r = quiet-rest c (d ∷ ds) (length (d ∷ ds)) q in
-  let ih : lines (d ∷ ds) ≡ (d ∷ ds) ∷ [] = open-line (d ∷ ds) (omega arith) (r .1) in
-  let step : lines (c ∷ d ∷ ds) ≡ onto c (lines (d ∷ ds)) = let ne : c ≡ 10 → ⊥ = r .0 in grind (arith, tells) in
-  step ∙ ap (onto c) ih
+    let r = quiet-rest c (d ∷ ds) (length (d ∷ ds)) q in
+    let ih : lines (d ∷ ds) ≡ (d ∷ ds) ∷ [] = open-line (d ∷ ds) (omega arith) (r .1) in
+    let step : lines (c ∷ d ∷ ds) ≡ onto c (lines (d ∷ ds)) = let ne : c ≡ 10 → ⊥ = r .0 in grind (arith, tells) in
+    step ∙ ap (onto c) ih
 
 pub line-open : (s : List ℕ) → 0 < length s → Quiet s (length s) → lines s ≡ take (length s) s ∷ lines (drop (length s) s)
 line-open s h q =
-  let t : take (length s) s ≡ s = take-all (length s) s (omega arith) in
-  let d : drop (length s) s ≡ [] = drop-all (length s) s (omega arith) in
-  open-line s h q ∙ ap (λ l. l ∷ []) (sym t) ∙ ap (λ r. take (length s) s ∷ lines r) (sym d)
+    let t : take (length s) s ≡ s = take-all (length s) s (omega arith) in
+    let d : drop (length s) s ≡ [] = drop-all (length s) s (omega arith) in
+    open-line s h q ∙ ap (λ l. l ∷ []) (sym t) ∙ ap (λ r. take (length s) s ∷ lines r) (sym d)
 
 -- an empty text is itself twice over
 pub doubled : (s : List ℕ) → length s ≡ 0 → s ≡ s ++ s

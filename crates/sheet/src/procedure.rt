@@ -13,7 +13,7 @@ pub struct Procedure {
     pub first: u16, // the number of its first instruction
     pub parameters: u16,
     pub result: Option<Kind>,
-    pub offset: u32,
+    pub offset: usize,
     pub count: u16,
 }
 

@@ -8,9 +8,9 @@ use Rattle.columns.proofs.table_text.first_fault.Given as given
 
 abbrev pub Inv-loop-rest : given.InvT-loop-rest
 Inv-loop-rest l =
-  (first-failing counted (passes (l .scan)) (l .counts) (l .number) (lines-of (l .rest)) ≡ first-fault (l .scan) (l .text))
-  × (l .number + length (l .rest) ≤ length (l .text) + 1)
-  × Below (l .counts) (l .number)
+    (first-failing counted (passes (l .scan)) (l .counts) (l .number) (lines-of (l .rest)) ≡ first-fault (l .scan) (l .text))
+    × (l .number + length (l .rest) ≤ length (l .text) + 1)
+    × Below (l .counts) (l .number)
 
 abbrev pub μ-loop-rest : given.MeasureT-loop-rest
 μ-loop-rest l = length (l .rest)

@@ -10,5 +10,5 @@ use Rattle.numerals.proofs.lines.split_line.Needs as need
 
 pub returns-then-is-empty : need.returns-then-is-empty
 returns-then-is-empty c =
-  let e : length (c .args .text .now) ≡ 0 = search needs in
-  record { parts = doubled (c .args .text .now) e; first = λ h. absurd (omega arith); some = λ h. h; len = omega arith }
+    let e : length (c .args .text .now) ≡ 0 = search needs in
+    record { parts = doubled (c .args .text .now) e; first = λ h. absurd (omega arith); some = λ h. h; len = omega arith }

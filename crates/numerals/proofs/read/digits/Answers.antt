@@ -15,11 +15,13 @@ pub returns-in-rest·2 : need.returns-in-rest·2
 returns-in-rest·2 c = grind (arith, tells, at-drop-more (digits-after (c .loop-b .n)) (c .args .s .now) (c .loop-b .b-index) 0)
 
 pub loop-b-again : need.loop-b-again
-loop-b-again c =
-  ( grind (arith, tells, at-drop-more (digits-after (c .loop-b .n)) (c .args .s .now) (c .loop-b .b-index) 0)
-  , simp (add-one, pow-suc) (omega arith) )
+loop-b-again c = (
+  grind (arith, tells, at-drop-more (digits-after (c .loop-b .n)) (c .args .s .now) (c .loop-b .b-index) 0),
+  simp (add-one, pow-suc) (omega arith),
+)
 
 pub returns : need.returns
-returns c = record
-  { value = grind (arith, at-drop-all (digits-after (c .loop-b .n)) (c .args .s .now) (c .loop-b .b-index))
-  ; bound = let h : c .loop-b .b-index ≤ 20 = omega arith in omega (arith, pow-le-pow-right {n = 10} (omega arith) h) }
+returns c = record {
+  value = grind (arith, at-drop-all (digits-after (c .loop-b .n)) (c .args .s .now) (c .loop-b .b-index));
+  bound = let h : c .loop-b .b-index ≤ 20 = omega arith in omega (arith, pow-le-pow-right {n = 10} (omega arith) h);
+}
