@@ -1,2 +1,3 @@
 mod Scanning
 mod Laying
+mod Filling

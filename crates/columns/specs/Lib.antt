@@ -6,3 +6,4 @@ pub mod TableLines
 pub mod TableText
 pub mod ValueLaws
 pub mod ValueLines
+pub mod Verdicts

@@ -3,3 +3,4 @@ pub mod fault;
 mod letters;
 pub mod line;
 pub mod table_text;
+pub mod verdict;
