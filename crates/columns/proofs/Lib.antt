@@ -1,3 +1,4 @@
 mod Scanning
 mod Laying
 mod Filling
+mod Causes

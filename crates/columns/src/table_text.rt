@@ -7,6 +7,7 @@ ghost use Rattle.numerals.specs.Lines.{lines as split};
 ghost use Rattle.columns.specs.TableLines.{read-line};
 ghost use Rattle.columns.specs.Scans.{laid};
 ghost use Rattle.columns.specs.Faults.{well-formed};
+ghost use Rattle.columns.specs.Causes.{Refused-for-cause};
 ghost use Rattle.columns.specs.Laying.{with-procedure, with-cell, with-code};
 ghost use Rattle.columns.specs.TableText.{counted, passes, in-order, has-room, first-fault, verdict, lines-of, own-cells, record-of, procedures-of, cells-of, code-of, contents, extent-of, room-of, read-table, answered, procedures-left, cells-left, code-left};
 use crate::fault::LineFault;
@@ -296,6 +297,7 @@ pub fn read_table(
     ensures procedures { λ _. ⌜ now (procedures .exit) ≡ procedures-left (read-table (room-of (now (procedures .entry)) (now (cells .entry)) (now (code .entry))) (now (text .entry))) (now (procedures .entry)) ⌝ }
     ensures cells { λ _. ⌜ now (cells .exit) ≡ cells-left (read-table (room-of (now (procedures .entry)) (now (cells .entry)) (now (code .entry))) (now (text .entry))) (now (cells .entry)) ⌝ }
     ensures code { λ _. ⌜ now (code .exit) ≡ code-left (read-table (room-of (now (procedures .entry)) (now (cells .entry)) (now (code .entry))) (now (text .entry))) (now (code .entry)) ⌝ }
+    ensures cause { λ _. ⌜ Refused-for-cause ⌝ }
 {
     let room = Extent {
         procedures: procedures.len(),
