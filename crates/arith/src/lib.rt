@@ -1,0 +1,4 @@
+// Every operation of the sheet that computes a value from one or two.
+pub mod division;
+mod integer;
+pub mod payload;
