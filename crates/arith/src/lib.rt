@@ -2,3 +2,5 @@
 pub mod division;
 mod integer;
 pub mod payload;
+pub mod real;
+mod relation;
