@@ -54,7 +54,7 @@ divides a b h = (remZ a b, makes-up a b, smaller a b h, on-its-side a b)
 
 -- whatever the quotient answers, divides
 pub answer-divides : (a b q : ℤ) → whole-quotient a b ≡ Some q → Divides a b q
-answer-divides a b q e = 
+answer-divides a b q e =
     let positive : 0 < natAbs b = grind (arith, tells) in
     let same : quotZ a b ≡ q = grind (arith, tells) in
     subst (Divides a b) same (divides a b positive)

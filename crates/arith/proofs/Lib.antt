@@ -1,3 +1,4 @@
 mod Dividing
+mod Patterns
 mod Ranges
 mod Truncating

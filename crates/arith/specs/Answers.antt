@@ -10,7 +10,6 @@ use Rattle.sheet.specs.declared.stop.Stop.{Stop}
 
 infixr 10 _>>=_
 infixr 10 _>>_
-
 abbrev pub Answer : Type 0 → Type 0
 Answer A = Result A Stop
 

@@ -1,6 +1,11 @@
 // Reals: IEEE 754's operations on 64 bits, whose results have to be finite.
 ghost use mathlib.Core.Path.{_≡_};
+ghost use mathlib.Core.Bool.{true};
 ghost use lib.Ieee as Ieee;
+ghost use lib.Ieee.{Float};
+ghost use Rattle.std.specs.Floats.{finite as is-finite};
+ghost use Rattle.std.specs.declared.option.Option.the-variants.{Some};
+ghost use Rattle.std.specs.declared.result.Result.the-variants.{Ok};
 ghost use Rattle.arith.specs.Reals.{real-of, real-arithmetic, of-integer, whole-part, pattern-of, of-pattern};
 use crate::integer::narrowed;
 use sheet::operation::Arithmetic;
@@ -46,23 +51,26 @@ pub fn whole_part(x: f64) -> Result<i32, Stop>
     narrowed(i128::from(std::num::saturating_f64_to_i64(x)))
 }
 
-// Every integer has a real of its own.
+// Every integer is a real without rounding: its whole part is the integer again.
 pub fn real_from_integer(n: i32) -> f64
-    ensures { λ r. ⌜ r ≡ of-integer n ⌝ }
+    ensures value { λ r. ⌜ r ≡ of-integer n ⌝ }
+    ensures back { λ r. ⌜ whole-part r ≡ Ok n ⌝ }
 {
     f64::from(n)
 }
 
 // The real whose 64 bits these are, if it is finite.
 pub fn real_from_pattern(bits: u64) -> Option<f64>
-    ensures { λ r. ⌜ r ≡ of-pattern bits ⌝ }
+    ensures value { λ r. ⌜ r ≡ of-pattern bits ⌝ }
+    ensures back { λ r. ⌜ ((x : Float) → r ≡ Some x → pattern-of x ≡ bits) ⌝ }
 {
     let x = std::num::f64_from_bits_with_nan(bits);
     if x.is_finite() { Some(x) } else { None }
 }
 
 pub fn pattern(x: f64) -> u64
-    ensures { λ r. ⌜ r ≡ pattern-of x ⌝ }
+    ensures value { λ r. ⌜ r ≡ pattern-of x ⌝ }
+    ensures back { λ r. ⌜ (is-finite x ≡ true → of-pattern r ≡ Some x) ⌝ }
 {
     std::num::f64_to_bits_with_nan(x)
 }
