@@ -1,4 +1,5 @@
 mod Dividing
 mod Patterns
+pub mod Proper
 mod Ranges
 mod Truncating

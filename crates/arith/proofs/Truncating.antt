@@ -42,6 +42,11 @@ whole-in x z p r =
     let t : toSigned 63 x ≡ z = p .1 in
     grind (arith, e, t, f, r)
 
+pub integer-finite : (z : ℤ) → SFits w32 z → finite (of-integer z) ≡ true
+unfolding inFloat
+integer-finite (pos n) h = finite-in _ (positive-back binary64 63 n (omega (arith, le→leb)) (omega arith) .0)
+integer-finite (negsuc n) h = finite-in _ (negative-back binary64 63 n (omega (arith, lt→ltb)) (omega arith) .0)
+
 pub integer-back : (z : ℤ) → SFits w32 z → whole-part (of-integer z) ≡ Ok z
 unfolding inFloat
 integer-back (pos n) h = whole-in _ (pos n) (positive-back binary64 63 n (omega (arith, le→leb)) (omega arith)) (grind (arith, tells))

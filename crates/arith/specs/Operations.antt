@@ -2,11 +2,14 @@
 -- Values of another kind than the operation takes stop it first, then a zero divisor, a result outside its kind, and bounds.
 --   binary-result: of the two values that it takes, the lower one first
 --   unary-result: of the one value that it takes
-use mathlib.Core.Bool.{_&&_, _||_, not}
+--   Proper: what is given is a value: a real is finite
+use mathlib.Core.Path.{_≡_}
+use mathlib.Core.Bool.{true, _&&_, _||_, not}
 use Prim.Native.Nat.{ℕ}
 use lib.IntN.{ℤ, pos, negℤ, _+ℤ_, _-ℤ_, _*ℤ_}
 use lib.Ieee as Ieee
-use Rattle.std.specs.declared.result.Result.the-variants.{Ok}
+use lib.Ieee.{Float}
+use Rattle.std.specs.declared.result.Result.the-variants.{Ok, Err}
 use Rattle.sheet.specs.declared.operation.Arithmetic.{Arithmetic}
 use Rattle.sheet.specs.declared.operation.Binary.{Binary}
 use Rattle.sheet.specs.declared.operation.Binary.the-variants as two
@@ -20,6 +23,7 @@ use Rattle.sheet.specs.declared.operation.Unary.{Unary}
 use Rattle.sheet.specs.declared.operation.Unary.the-variants as one
 use Rattle.sheet.specs.declared.value.Value.{Value}
 use Rattle.sheet.specs.declared.value.Value.the-variants.{Address, Boolean, Character, Integer, Real}
+use Rattle.sheet.specs.Kinds.{is-value}
 use Rattle.arith.specs.Answers.{Answer, _>>=_}
 use Rattle.arith.specs.Integers.{integer-of, integer-arithmetic, integer-checked, character-of}
 use Rattle.arith.specs.Payloads.{address-in, boolean-in, character-in, integer-in, real-in}
@@ -36,13 +40,17 @@ to-character z = character-of z >>= λ c. Ok (Character c)
 abbrev pub to-integer : ℤ → Answer Value
 to-integer z = integer-of z >>= λ i. Ok (Integer i)
 
+-- the rounded real as a value
+abbrev pub to-real : Float → Answer Value
+to-real x = real-of x >>= λ f. Ok (Real f)
+
 abbrev pub arithmetic : Arithmetic → Numeric → (lower top : Value) → Answer Value
 arithmetic op numeric.Integer x y = integer-in x >>= λ i. integer-in y >>= λ j. integer-arithmetic op i j >>= λ z. Ok (Integer z)
 arithmetic op numeric.Real x y = real-in x >>= λ i. real-in y >>= λ j. real-arithmetic op i j >>= λ z. Ok (Real z)
 
 abbrev pub negation : Numeric → Value → Answer Value
 negation numeric.Integer x = integer-in x >>= λ i. to-integer (negℤ i)
-negation numeric.Real x = real-in x >>= λ i. real-of (Ieee.neg i) >>= λ z. Ok (Real z)
+negation numeric.Real x = real-in x >>= λ i. to-real (Ieee.neg i)
 
 -- q more, and q less
 abbrev pub increment : Ordinal → (q : ℤ) → Value → Answer Value
@@ -56,7 +64,7 @@ decrement ordinal.Character q x = character-in x >>= λ c. to-character (pos c -
 decrement ordinal.Integer q x = integer-in x >>= λ i. to-integer (i -ℤ q)
 
 abbrev pub conversion : Conversion → Value → Answer Value
-conversion IntegerToReal x = integer-in x >>= λ i. Ok (Real (of-integer i))
+conversion IntegerToReal x = integer-in x >>= λ i. to-real (of-integer i)
 conversion RealToInteger x = real-in x >>= λ f. whole-part f >>= λ i. Ok (Integer i)
 conversion CharacterToInteger x = character-in x >>= λ c. Ok (Integer (pos c))
 conversion IntegerToCharacter x = integer-in x >>= λ i. to-character i
@@ -79,3 +87,7 @@ unary-result (one.Increment o q) x = increment o q x
 unary-result (one.Decrement o q) x = decrement o q x
 unary-result (one.Check p q) x = integer-in x >>= λ i. integer-checked p q i >>= λ z. Ok (Integer z)
 unary-result (one.Convert c) x = conversion c x
+
+abbrev pub Proper : Answer Value → Type 0
+Proper (Ok x) = is-value x ≡ true
+Proper (Err s) = Unit {0}

@@ -1,6 +1,6 @@
 // The operations on values: kinds are tested first, then each operation is the one of its kind.
 ghost use mathlib.Core.Path.{_≡_};
-ghost use Rattle.arith.specs.Operations.{arithmetic, binary-result, conversion, decrement, increment, index, negation, unary-result};
+ghost use Rattle.arith.specs.Operations.{arithmetic, binary-result, conversion, decrement, increment, index, negation, unary-result, Proper};
 ghost use Rattle.arith.specs.Relations.{relation};
 use crate::integer;
 use crate::payload::address_in;
@@ -25,7 +25,8 @@ use sheet::value::Value;
 
 // The lower value is the left operand.
 pub fn binary(op: Binary, lower: Value, top: Value) -> Result<Value, Stop>
-    ensures { λ r. ⌜ r ≡ binary-result op lower top ⌝ }
+    ensures value { λ r. ⌜ r ≡ binary-result op lower top ⌝ }
+    ensures proper { λ r. ⌜ Proper r ⌝ }
 {
     match op {
         Binary::Arithmetic(op, numeric) => computed(op, numeric, lower, top),
@@ -45,7 +46,8 @@ pub fn binary(op: Binary, lower: Value, top: Value) -> Result<Value, Stop>
 }
 
 pub fn unary(op: Unary, x: Value) -> Result<Value, Stop>
-    ensures { λ r. ⌜ r ≡ unary-result op x ⌝ }
+    ensures value { λ r. ⌜ r ≡ unary-result op x ⌝ }
+    ensures proper { λ r. ⌜ Proper r ⌝ }
 {
     match op {
         Unary::Negate(numeric) => negated(numeric, x),

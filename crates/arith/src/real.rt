@@ -54,6 +54,7 @@ pub fn whole_part(x: f64) -> Result<i32, Stop>
 // Every integer is a real without rounding: its whole part is the integer again.
 pub fn real_from_integer(n: i32) -> f64
     ensures value { λ r. ⌜ r ≡ of-integer n ⌝ }
+    ensures number { λ r. ⌜ is-finite r ≡ true ⌝ }
     ensures back { λ r. ⌜ whole-part r ≡ Ok n ⌝ }
 {
     f64::from(n)
