@@ -2,3 +2,4 @@ mod Scanning
 mod Laying
 mod Filling
 mod Causes
+mod Values

@@ -9,10 +9,12 @@ use lib.Dec.{eqb, ltb}
 use lib.IntN.{ℤ, pos, negsuc}
 use lib.Signed.{mag}
 use lib.ListN.{length, getD}
-use lib.Ieee.{Float, toBits, ofBits, binary64}
-use Rattle.std.specs.Floats.{finite}
+use lib.Ieee.{Float}
+use Rattle.std.specs.declared.option.Option.{Option}
+use Rattle.std.specs.declared.option.Option.the-variants.{Some, None}
 use Rattle.std.specs.declared.result.Result.{Result}
 use Rattle.std.specs.declared.result.Result.the-variants.{Ok, Err}
+use Rattle.arith.specs.Reals.{of-pattern, pattern-of}
 use Rattle.numerals.specs.Numbers.{write-number}
 use Rattle.sheet.specs.declared.value.Value.{Value}
 use Rattle.sheet.specs.declared.value.Value.the-variants.{Address, Boolean, Character, Integer, Real}
@@ -35,9 +37,13 @@ character (negsuc n) = Err OutOfRange
 abbrev pub integer : ℤ → Result Value LineFault
 integer z = cond (ltb (mag z) (2 ^ 31)) (Ok (Integer z)) (Err OutOfRange)
 
+abbrev pub some-real : Option Float → Result Value LineFault
+some-real None = Err OutOfRange
+some-real (Some x) = Ok (Real x)
+
 -- the unsigned 64-bit pattern of a finite number
 abbrev pub real : ℤ → Result Value LineFault
-real (pos n) = cond (ltb n (2 ^ 64)) (cond (finite (ofBits binary64 n)) (Ok (Real (ofBits binary64 n))) (Err OutOfRange)) (Err OutOfRange)
+real (pos n) = cond (ltb n (2 ^ 64)) (some-real (of-pattern n)) (Err OutOfRange)
 real (negsuc n) = Err OutOfRange
 
 -- b, c, i, r
@@ -60,7 +66,7 @@ number-of (Address x) = x .0
 number-of (Boolean x) = pos (cond x 1 0)
 number-of (Character x) = pos x
 number-of (Integer x) = x
-number-of (Real x) = pos (toBits binary64 x)
+number-of (Real x) = pos (pattern-of x)
 
 abbrev pub columns-of : Value → List ℕ
 columns-of v = write-number 20 (number-of v)

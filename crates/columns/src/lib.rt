@@ -3,4 +3,5 @@ pub mod fault;
 mod letters;
 pub mod line;
 pub mod table_text;
+pub mod value_line;
 pub mod verdict;
