@@ -1,5 +1,7 @@
 mod Scanning
 mod Laying
 mod Filling
-mod Causes
+pub mod Causes
 mod Values
+mod ValueCauses
+mod ValueLaying

@@ -8,3 +8,5 @@ pub mod TableText
 pub mod ValueLaws
 pub mod ValueLines
 pub mod Verdicts
+pub mod ValueText
+pub mod ValueCauses

@@ -1,7 +1,7 @@
 ghost use mathlib.Core.Path.{_≡_};
 ghost use mathlib.Core.List.{map};
 ghost use Prim.Native.Nat.{_+_, _^_, _≤_, _<_};
-ghost use lib.ListN.{length, set};
+ghost use lib.ListN.{length};
 ghost use Rattle.std.specs.declared.option.Option.the-variants.{None};
 ghost use Rattle.numerals.specs.Lines.{lines as split};
 ghost use Rattle.columns.specs.TableLines.{read-line};
@@ -15,6 +15,7 @@ use crate::fault::TextFault;
 use crate::line::Heading;
 use crate::line::Line;
 use crate::line::read_line;
+use crate::lists::put;
 use numerals::lines::split_line;
 use sheet::instruction::Instruction;
 use sheet::kind::Kind;
@@ -204,15 +205,6 @@ impl Heading {
             offset,
             count,
         }
-    }
-}
-
-// Replaces an element, if the list has that place.
-fn put<T: Copy>(list: &mut [T], at: usize, x: T)
-    ensures { λ _. ⌜ now (list .exit) ≡ set (now (list .entry)) at x ⌝ }
-{
-    if at < list.len() {
-        list[at] = x;
     }
 }
 
