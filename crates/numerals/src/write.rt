@@ -6,6 +6,19 @@ ghost use lib.ListN.{length, take, drop, replicate};
 ghost use Rattle.std.specs.Written.{decimal, signed};
 ghost use Rattle.numerals.specs.Laws.{Written-numbers-read-back};
 ghost use Rattle.numerals.specs.Numbers.{write-number};
+use arith::division::quotient;
+
+// A number without its last digit, and that digit.
+fn last_digit(n: u64) -> (u64, u8)
+    ensures front { λ r. ⌜ r .0 ≡ n / 10 ⌝ }
+    ensures digit { λ r. ⌜ r .1 ≡ n % 10 ⌝ }
+{
+    let Some(tenth) = quotient(n as i128, 10) else {
+        unreachable();
+    };
+    let front = tenth as u64;
+    (front, (n - front * 10) as u8)
+}
 
 // Writes the digits of `n` at the end of `out`, and says where they begin.
 fn write_natural(out: &mut [u8], mut n: u64) -> usize
@@ -14,8 +27,9 @@ fn write_natural(out: &mut [u8], mut n: u64) -> usize
     ensures after { λ r. ⌜ now (out .exit) ≡ take r (now (out .entry)) ++ decimal n ⌝ }
 {
     for i in (0..out.len()).rev() {
-        out[i] = b'0' + (n % 10) as u8;
-        n /= 10;
+        let (front, digit) = last_digit(n);
+        out[i] = b'0' + digit;
+        n = front;
         if n == 0 {
             return i;
         }
