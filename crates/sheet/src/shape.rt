@@ -39,235 +39,172 @@ pub struct Shape {
     pub rule: Rule,
 }
 
+const BARE: Shape = Shape {
+    letters: Letters::Nothing,
+    p: false,
+    q: false,
+    rule: Rule::Free,
+};
+
+const NUMERIC: Shape = Shape {
+    letters: Letters::Number,
+    p: false,
+    q: false,
+    rule: Rule::Free,
+};
+
+const TYPED: Shape = Shape {
+    letters: Letters::Every,
+    p: false,
+    q: false,
+    rule: Rule::Free,
+};
+
+const CONSTANT: Shape = Shape {
+    letters: Letters::Every,
+    p: false,
+    q: true,
+    rule: Rule::Constant,
+};
+
+const GLOBAL: Shape = Shape {
+    letters: Letters::Every,
+    p: false,
+    q: true,
+    rule: Rule::Global,
+};
+
+const LOCAL: Shape = Shape {
+    letters: Letters::Every,
+    p: true,
+    q: true,
+    rule: Rule::Local,
+};
+
+const ADDRESS: Shape = Shape {
+    letters: Letters::Nothing,
+    p: true,
+    q: true,
+    rule: Rule::Address,
+};
+
+const SCALE: Shape = Shape {
+    letters: Letters::Nothing,
+    p: false,
+    q: true,
+    rule: Rule::Free,
+};
+
+const STEP: Shape = Shape {
+    letters: Letters::Ordinal,
+    p: false,
+    q: true,
+    rule: Rule::Free,
+};
+
+const BOUNDS: Shape = Shape {
+    letters: Letters::Nothing,
+    p: true,
+    q: true,
+    rule: Rule::Free,
+};
+
+const LABEL: Shape = Shape {
+    letters: Letters::Nothing,
+    p: false,
+    q: true,
+    rule: Rule::Label,
+};
+
+const READ: Shape = Shape {
+    letters: Letters::Reads,
+    p: false,
+    q: false,
+    rule: Rule::Free,
+};
+
+const PAIR: Shape = Shape {
+    letters: Letters::Pair,
+    p: false,
+    q: false,
+    rule: Rule::Free,
+};
+
+const LINK: Shape = Shape {
+    letters: Letters::Nothing,
+    p: true,
+    q: false,
+    rule: Rule::Link,
+};
+
+const CALL: Shape = Shape {
+    letters: Letters::Nothing,
+    p: true,
+    q: true,
+    rule: Rule::Call,
+};
+
+const ENTER: Shape = Shape {
+    letters: Letters::Nothing,
+    p: true,
+    q: true,
+    rule: Rule::Enter,
+};
+
+const FUNCTION: Shape = Shape {
+    letters: Letters::Nothing,
+    p: false,
+    q: false,
+    rule: Rule::Function,
+};
+
+const PROCEDURE: Shape = Shape {
+    letters: Letters::Nothing,
+    p: false,
+    q: false,
+    rule: Rule::Procedure,
+};
+
+// By the number of the mnemonic.
 const SHAPES: [Shape; 38] = [
-    Shape {
-        letters: Letters::Number,
-        p: false,
-        q: false,
-        rule: Rule::Free,
-    },
-    Shape {
-        letters: Letters::Number,
-        p: false,
-        q: false,
-        rule: Rule::Free,
-    },
-    Shape {
-        letters: Letters::Number,
-        p: false,
-        q: false,
-        rule: Rule::Free,
-    },
-    Shape {
-        letters: Letters::Number,
-        p: false,
-        q: false,
-        rule: Rule::Free,
-    },
-    Shape {
-        letters: Letters::Number,
-        p: false,
-        q: false,
-        rule: Rule::Free,
-    },
-    Shape {
-        letters: Letters::Nothing,
-        p: false,
-        q: false,
-        rule: Rule::Free,
-    },
-    Shape {
-        letters: Letters::Nothing,
-        p: false,
-        q: false,
-        rule: Rule::Free,
-    },
-    Shape {
-        letters: Letters::Nothing,
-        p: false,
-        q: false,
-        rule: Rule::Free,
-    },
-    Shape {
-        letters: Letters::Every,
-        p: false,
-        q: false,
-        rule: Rule::Free,
-    },
-    Shape {
-        letters: Letters::Every,
-        p: false,
-        q: false,
-        rule: Rule::Free,
-    },
-    Shape {
-        letters: Letters::Every,
-        p: false,
-        q: false,
-        rule: Rule::Free,
-    },
-    Shape {
-        letters: Letters::Every,
-        p: false,
-        q: false,
-        rule: Rule::Free,
-    },
-    Shape {
-        letters: Letters::Every,
-        p: false,
-        q: false,
-        rule: Rule::Free,
-    },
-    Shape {
-        letters: Letters::Every,
-        p: false,
-        q: false,
-        rule: Rule::Free,
-    },
-    Shape {
-        letters: Letters::Every,
-        p: false,
-        q: true,
-        rule: Rule::Constant,
-    },
-    Shape {
-        letters: Letters::Every,
-        p: false,
-        q: true,
-        rule: Rule::Global,
-    },
-    Shape {
-        letters: Letters::Every,
-        p: false,
-        q: true,
-        rule: Rule::Global,
-    },
-    Shape {
-        letters: Letters::Every,
-        p: true,
-        q: true,
-        rule: Rule::Local,
-    },
-    Shape {
-        letters: Letters::Every,
-        p: true,
-        q: true,
-        rule: Rule::Local,
-    },
-    Shape {
-        letters: Letters::Nothing,
-        p: true,
-        q: true,
-        rule: Rule::Address,
-    },
-    Shape {
-        letters: Letters::Every,
-        p: false,
-        q: false,
-        rule: Rule::Free,
-    },
-    Shape {
-        letters: Letters::Every,
-        p: false,
-        q: false,
-        rule: Rule::Free,
-    },
-    Shape {
-        letters: Letters::Every,
-        p: false,
-        q: false,
-        rule: Rule::Free,
-    },
-    Shape {
-        letters: Letters::Nothing,
-        p: false,
-        q: true,
-        rule: Rule::Free,
-    },
-    Shape {
-        letters: Letters::Ordinal,
-        p: false,
-        q: true,
-        rule: Rule::Free,
-    },
-    Shape {
-        letters: Letters::Ordinal,
-        p: false,
-        q: true,
-        rule: Rule::Free,
-    },
-    Shape {
-        letters: Letters::Nothing,
-        p: true,
-        q: true,
-        rule: Rule::Free,
-    },
-    Shape {
-        letters: Letters::Nothing,
-        p: false,
-        q: true,
-        rule: Rule::Label,
-    },
-    Shape {
-        letters: Letters::Nothing,
-        p: false,
-        q: true,
-        rule: Rule::Label,
-    },
-    Shape {
-        letters: Letters::Reads,
-        p: false,
-        q: false,
-        rule: Rule::Free,
-    },
-    Shape {
-        letters: Letters::Every,
-        p: false,
-        q: false,
-        rule: Rule::Free,
-    },
-    Shape {
-        letters: Letters::Pair,
-        p: false,
-        q: false,
-        rule: Rule::Free,
-    },
-    Shape {
-        letters: Letters::Nothing,
-        p: true,
-        q: false,
-        rule: Rule::Link,
-    },
-    Shape {
-        letters: Letters::Nothing,
-        p: true,
-        q: true,
-        rule: Rule::Call,
-    },
-    Shape {
-        letters: Letters::Nothing,
-        p: true,
-        q: true,
-        rule: Rule::Enter,
-    },
-    Shape {
-        letters: Letters::Nothing,
-        p: false,
-        q: false,
-        rule: Rule::Function,
-    },
-    Shape {
-        letters: Letters::Nothing,
-        p: false,
-        q: false,
-        rule: Rule::Procedure,
-    },
-    Shape {
-        letters: Letters::Nothing,
-        p: false,
-        q: false,
-        rule: Rule::Free,
-    },
+    NUMERIC, // add
+    NUMERIC, // sub
+    NUMERIC, // mul
+    NUMERIC, // div
+    NUMERIC, // neg
+    BARE, // and
+    BARE, // or
+    BARE, // not
+    TYPED, // equ
+    TYPED, // neq
+    TYPED, // les
+    TYPED, // leq
+    TYPED, // grt
+    TYPED, // geq
+    CONSTANT, // ldc
+    GLOBAL, // ldo
+    GLOBAL, // sro
+    LOCAL, // lod
+    LOCAL, // str
+    ADDRESS, // lda
+    TYPED, // ind
+    TYPED, // sto
+    TYPED, // dpl
+    SCALE, // ixa
+    STEP, // inc
+    STEP, // dec
+    BOUNDS, // chk
+    LABEL, // ujp
+    LABEL, // fjp
+    READ, // in
+    TYPED, // out
+    PAIR, // conv
+    LINK, // mst
+    CALL, // cup
+    ENTER, // ent
+    FUNCTION, // retf
+    PROCEDURE, // retp
+    BARE, // hlt
 ];
 
 // The four columns of each name: the checker computes no row that holds an array, so names stand beside the shapes.
