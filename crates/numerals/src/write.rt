@@ -4,7 +4,6 @@ ghost use Prim.Native.Nat.{_+_, _/_, _%_, _≤_};
 ghost use lib.IntN.{pos};
 ghost use lib.ListN.{length, take, drop, replicate};
 ghost use Rattle.std.specs.Written.{decimal, signed};
-ghost use Rattle.numerals.specs.Laws.{Written-numbers-read-back};
 ghost use Rattle.numerals.specs.Numbers.{write-number};
 use arith::division::quotient;
 
@@ -72,8 +71,7 @@ fn fill_signed(out: &mut [u8], z: i64)
 
 // `z` in 20 columns.
 pub fn write_signed(z: i64) -> [u8; 20]
-    ensures value { λ r. ⌜ r ≡ write-number 20 z ⌝ }
-    ensures read { λ _. ⌜ Written-numbers-read-back ⌝ }
+    ensures { λ r. ⌜ r ≡ write-number 20 z ⌝ }
 {
     let mut columns = [b' '; 20];
     fill_signed(&mut columns, z);
@@ -82,8 +80,7 @@ pub fn write_signed(z: i64) -> [u8; 20]
 
 // `n` in 20 columns.
 pub fn write_unsigned(n: u64) -> [u8; 20]
-    ensures value { λ r. ⌜ r ≡ write-number 20 (pos n) ⌝ }
-    ensures read { λ _. ⌜ Written-numbers-read-back ⌝ }
+    ensures { λ r. ⌜ r ≡ write-number 20 (pos n) ⌝ }
 {
     let mut columns = [b' '; 20];
     fill_unsigned(&mut columns, n);

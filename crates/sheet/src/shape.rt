@@ -306,8 +306,7 @@ impl Mnemonic {
 
     // The mnemonic with this name.
     pub fn by_name(name: [u8; 4]) -> Option<Mnemonic>
-        ensures value { λ r. ⌜ r ≡ named name ⌝ }
-        ensures apart { λ _. ⌜ Names-are-apart ⌝ }
+        ensures { λ r. ⌜ r ≡ named name ⌝ }
     {
         find_in(&MNEMONICS, name)
     }
@@ -329,4 +328,11 @@ pub fn shapes() -> [Shape; 38]
     ensures { λ r. ⌜ r ≡ map shape-of mnemonics ⌝ }
 {
     SHAPES
+}
+
+// Each mnemonic is found by its own name, and by no other.
+pub fn names_stand() -> u8
+    ensures { λ _. ⌜ Names-are-apart ⌝ }
+{
+    0
 }

@@ -2,7 +2,7 @@ use mathlib.Core.Path.{_≡_, _∙_}
 use lib.ListN.{length}
 use borrow.Author.Needs.{needs}
 use Rattle.columns.proofs.Filling.{two-columns, room-for-two}
-use Rattle.columns.proofs.verdict.write_verdict.Needs as need
+use Rattle.columns.proofs.verdict.two_columns.Needs as need
 
 pub returns : need.returns
 returns c =
