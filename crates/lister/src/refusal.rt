@@ -27,12 +27,12 @@ fn is_printable(line: &[u8]) -> bool {
     true
 }
 
-// The refusal in words, and the line at fault where it can be shown.
+// The line at fault where it can be shown, and then the refusal in words.
 pub(crate) fn refusal(heap: Global, text: &[u8], fault: TextFault) -> Result<String, AllocError> {
     let line = line_of(text, fault.line());
-    let quoted = match std::str::from_utf8(line) {
+    let shown = match std::str::from_utf8(line) {
         Ok(s) if line.len() <= LONGEST_QUOTE && is_printable(line) => format!(heap, "\"{s}\"")?,
-        _ => format!(heap, "(not printable)")?,
+        _ => format!(heap, "too long, or not printable")?,
     };
     let length = line.len();
     let place = fault.line();
@@ -40,6 +40,6 @@ pub(crate) fn refusal(heap: Global, text: &[u8], fault: TextFault) -> Result<Str
     let cause = cause(fault);
     format!(
         heap,
-        "{quoted}\n  {length} bytes before its end\nline {place}: {number}, {cause}\n"
+        "Refused\n\n{place:>6}  {shown}\n        {length} bytes\n\nline {place}: {number}, {cause}\n"
     )
 }

@@ -9,17 +9,24 @@ use sheet::shape::Shape;
 use std::alloc::AllocError;
 use std::alloc::Global;
 
+// Whether the mnemonic uses a letter or an operand.
+#[derive(Clone, Copy, Drop)]
+enum Column {
+    Used,
+    Unused,
+}
+
 impl Column {
     fn new(used: bool) -> Column {
         if used { Column::Used } else { Column::Unused }
     }
 }
 
-// Whether the mnemonic uses a letter or an operand.
-#[derive(Clone, Copy, Drop)]
-enum Column {
-    Used,
-    Unused,
+fn sign(kind: Option<Kind>) -> char {
+    match kind {
+        Some(kind) => kind.letter() as char,
+        None => '-',
+    }
 }
 
 // A letter after a blank: nothing where none is due, and a ! before one that is not due, or in place of one that is.
@@ -65,6 +72,19 @@ fn letters_used(letters: Letters) -> (Column, Column) {
     }
 }
 
+// The stack effect with the instruction's own letters.
+fn own_effect(heap: Global, instruction: Instruction) -> Result<String, AllocError> {
+    let mut text = String::new(heap);
+    for c in effect(instruction.mnemonic).chars() {
+        match c {
+            'T' => text.push(sign(instruction.t))?,
+            'U' => text.push(sign(instruction.t2))?,
+            _ => text.push(c)?,
+        }
+    }
+    Ok(text)
+}
+
 // Its number, the instruction as it is spoken of, its effect on the stack and its meaning.
 pub(crate) fn row(
     heap: Global,
@@ -87,7 +107,7 @@ pub(crate) fn row(
     let p = operand(heap, Column::new(shape.p), p)?;
     let q = target(heap, shape, q)?;
     let text = format!(heap, "{name}{t}{t2}{p}{q}")?;
-    let effect = effect(mnemonic);
+    let effect = own_effect(heap, instruction)?;
     let meaning = meaning(mnemonic);
     format!(heap, "{number:>6}  {text:<24}  {effect:<22}  {meaning}\n")
 }

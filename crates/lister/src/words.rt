@@ -21,11 +21,10 @@ pub(crate) fn cause(fault: TextFault) -> &'static str {
     }
 }
 
-// What it takes from the stack and gives, the top at the right.
+// What it takes from the stack and gives, the top at the right; T and U stand for the letters T and T2.
 pub(crate) fn effect(mnemonic: Mnemonic) -> &'static str {
     match mnemonic {
-        Mnemonic::Add | Mnemonic::Sub | Mnemonic::Mul | Mnemonic::Div => "(N, N) -> (N)",
-        Mnemonic::Neg => "(N) -> (N)",
+        Mnemonic::Add | Mnemonic::Sub | Mnemonic::Mul | Mnemonic::Div => "(T, T) -> (T)",
         Mnemonic::And | Mnemonic::Or => "(b, b) -> (b)",
         Mnemonic::Not => "(b) -> (b)",
         Mnemonic::Equ
@@ -41,11 +40,11 @@ pub(crate) fn effect(mnemonic: Mnemonic) -> &'static str {
         Mnemonic::Sto => "(a, T) -> ()",
         Mnemonic::Dpl => "(T) -> (T, T)",
         Mnemonic::Ixa => "(a, i) -> (a)",
-        Mnemonic::Inc | Mnemonic::Dec => "(T) -> (T)",
+        Mnemonic::Neg | Mnemonic::Inc | Mnemonic::Dec => "(T) -> (T)",
         Mnemonic::Chk => "(i) -> (i)",
         Mnemonic::Ujp => "() -> ()",
         Mnemonic::Fjp => "(b) -> ()",
-        Mnemonic::Conv => "(T) -> (T2)",
+        Mnemonic::Conv => "(T) -> (U)",
         Mnemonic::Mst => "() -> (mark)",
         Mnemonic::Cup => "(mark, ..) -> (result)",
         Mnemonic::Ent => "(parameters) -> ()",
