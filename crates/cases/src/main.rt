@@ -1,6 +1,7 @@
-// Reads table texts, well and ill written, and prints how each is answered.
+// Reads table texts, well and ill written, and prints how each is answered; then lists a few.
 // `tables.txt` has a line for each: its name, and the lengths of the three lists lent. The text is NAME.txt; or it is
 // made, where the line goes on with the counts of its procedures, data cells and instructions, and bytes to put last.
+// `listed.txt` names the texts to list.
 mod case;
 mod outcome;
 
@@ -8,8 +9,17 @@ use crate::case::Case;
 use crate::case::read_case;
 use crate::outcome::Outcome;
 use crate::outcome::try_table;
+use lister::text::list_table;
 use std::fs;
 use std::io;
+use std::io::Write;
+
+const ABOUT: &'static str =
+    "How each text is answered: the number of the refusal and its line, or 0 and the count of instructions;
+then how many places of the three lists lent stay as they were.
+
+table                                    number  place procedures  cells   code
+";
 
 fn show(rt: &LibcRuntime, case: Case<'_>) -> io::Result<()> {
     let heap = rt.alloc();
@@ -26,24 +36,29 @@ fn show(rt: &LibcRuntime, case: Case<'_>) -> io::Result<()> {
     let p = untouched.procedures;
     let d = untouched.cells;
     let i = untouched.code;
-    println!(rt, "{name:<44}{number:>3}{place:>7}{p:>11}{d:>7}{i:>7}")
+    println!(rt, "{name:<41}{number:>6}{place:>7}{p:>11}{d:>7}{i:>7}")
+}
+
+fn list(rt: &LibcRuntime, name: &str) -> io::Result<()> {
+    let heap = rt.alloc();
+    let text = fs::read(rt, format!(heap, "{name}.txt")?)?;
+    let listing = list_table(heap, &text)?;
+    println!(rt, "\n---- {name}")?;
+    rt.stdout().write_all(&listing)
 }
 
 fn main(rt: LibcRuntime) -> io::Result<()> {
-    println!(
-        rt,
-        "                                             line or places left as they were:"
-    )?;
-    println!(
-        rt,
-        "table                                      number  count procedures, cells, instructions"
-    )?;
+    rt.print(ABOUT)?;
     let index = fs::read_to_string(&rt, "tables.txt")?;
     for line in index.as_str().lines() {
         match read_case(line) {
             Some(case) => show(&rt, case)?,
             None => println!(rt, "{line}: no case")?,
         }
+    }
+    let listed = fs::read_to_string(&rt, "listed.txt")?;
+    for name in listed.as_str().lines() {
+        list(&rt, name)?;
     }
     Ok(())
 }

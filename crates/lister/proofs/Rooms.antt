@@ -1,6 +1,6 @@
 -- A list with a place for each line of a text is long enough for the records of its lines.
 use mathlib.Core.Path.{_≡_, refl, ap, _∙_}
-use mathlib.Core.List.{List, [], _∷_, _++_, map}
+use mathlib.Core.List.{List, [], _∷_, map}
 use Prim.Native.Nat.{ℕ, _+_, _≤_}
 use native.Mathlib.Omega.{arith}
 use lib.ListN.{length}
@@ -23,7 +23,7 @@ use Rattle.columns.specs.TableLines.{read-line}
 use Rattle.columns.specs.TableText.{Said, counted, passes, start, first-fault, read-by, read-table, answered, contents, lines-of, extent-of, room-of}
 use Rattle.columns.specs.Faults.{refuse}
 use Rattle.columns.specs.declared.fault.TextFault.the-variants.{Malformed, Misplaced, TooLong}
-use Rattle.lister.specs.Listings.{read-freely, end-line, verdict-on, Ends-in}
+use Rattle.lister.specs.Listings.{read-freely, end-line, verdict-on}
 
 -- a place in each list for each line
 abbrev pub room-for : List ℕ → Extent
@@ -74,14 +74,11 @@ pub room-by-lines : (text : List ℕ) (n : ℕ) (ps : List Procedure) (ts : List
     n ≡ length (lines text) → length ps ≡ n → length ts ≡ n → length is ≡ n → room-of ps ts is ≡ room-for text
 room-by-lines text n ps ts is e p t i = cc
 
--- what was read, and the verdict put last
-pub verdict-last : (text front more out : List ℕ) (n : ℕ) (ps : List Procedure) (ts : List Kind) (is : List Instruction) (answer : Result Extent TextFault) →
+-- what is read into a place for each line is read freely
+pub verdict-by-lines : (text verdict : List ℕ) (n : ℕ) (ps : List Procedure) (ts : List Kind) (is : List Instruction) (answer : Result Extent TextFault) →
     n ≡ length (lines text) → length ps ≡ n → length ts ≡ n → length is ≡ n →
-    answer ≡ answered (read-table (room-of ps ts is) text) → more ≡ end-line answer → out ≡ front ++ more →
-    Ends-in (verdict-on text) out
-verdict-last text front more out n ps ts is answer e p t i a m o =
+    answer ≡ answered (read-table (room-of ps ts is) text) → verdict ≡ end-line answer → verdict ≡ verdict-on text
+verdict-by-lines text verdict n ps ts is answer e p t i a v =
     let room = room-by-lines text n ps ts is e p t i in
-    let free = reads-freely text in
-    let same-answer : answer ≡ read-freely text = a ∙ ap (λ r. answered (read-table r text)) room ∙ free in
-    let line : more ≡ verdict-on text = m ∙ ap end-line same-answer in
-    (front, o ∙ ap (λ l. front ++ l) line)
+    let same : answer ≡ read-freely text = a ∙ ap (λ r. answered (read-table r text)) room ∙ reads-freely text in
+    v ∙ ap end-line same

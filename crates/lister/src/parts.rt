@@ -104,14 +104,12 @@ pub(crate) fn list_parts(heap: Global, table: Table<'_>) -> Result<String, Alloc
         let text = heading(heap, i, *procedure)?;
         out.push_str(text.as_str())?;
         list_cells(heap, &mut out, *procedure, cells)?;
-        out.push('\n')?;
-        list_code(
-            heap,
-            &mut out,
-            procedure.first as usize,
-            earliest(later),
-            code,
-        )?;
+        let from = procedure.first as usize;
+        let to = earliest(later).min(n);
+        if procedure.count > 0 && from < to {
+            out.push('\n')?;
+        }
+        list_code(heap, &mut out, from, to, code)?;
     }
     out.push('\n')?;
     Ok(out)

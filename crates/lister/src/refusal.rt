@@ -27,19 +27,26 @@ fn is_printable(line: &[u8]) -> bool {
     true
 }
 
+fn quoted(heap: Global, line: &[u8]) -> Result<String, AllocError> {
+    if line.len() > LONGEST_QUOTE {
+        return format!(heap, "too long to show");
+    }
+    match std::str::from_utf8(line) {
+        Ok(text) if is_printable(line) => format!(heap, "\"{text}\""),
+        _ => format!(heap, "not printable"),
+    }
+}
+
 // The line at fault where it can be shown, and then the refusal in words.
 pub(crate) fn refusal(heap: Global, text: &[u8], fault: TextFault) -> Result<String, AllocError> {
-    let line = line_of(text, fault.line());
-    let shown = match std::str::from_utf8(line) {
-        Ok(s) if line.len() <= LONGEST_QUOTE && is_printable(line) => format!(heap, "\"{s}\"")?,
-        _ => format!(heap, "too long, or not printable")?,
-    };
-    let length = line.len();
     let place = fault.line();
     let number = fault.number();
     let cause = cause(fault);
+    let line = line_of(text, place);
+    let shown = quoted(heap, line)?;
+    let length = line.len();
     format!(
         heap,
-        "Refused\n\n{place:>6}  {shown}\n        {length} bytes\n\nline {place}: {number}, {cause}\n"
+        "Refused\n\n{place:>6}  {shown}\n        length {length}, its end not counted\n\nline {place}: {number}, {cause}\n"
     )
 }

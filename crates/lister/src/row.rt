@@ -109,5 +109,5 @@ pub(crate) fn row(
     let text = format!(heap, "{name}{t}{t2}{p}{q}")?;
     let effect = own_effect(heap, instruction)?;
     let meaning = meaning(mnemonic);
-    format!(heap, "{number:>6}  {text:<24}  {effect:<22}  {meaning}\n")
+    format!(heap, "{number:>6}  {text:<28}  {effect:<22}  {meaning}\n")
 }

@@ -60,6 +60,15 @@ fn end_line(answer: Result<Extent, TextFault>) -> [u8; 42]
     }
 }
 
+// Puts the verdict last.
+fn ended(body: String, verdict: [u8; 42]) -> Result<Vec<u8>, AllocError>
+    ensures { λ r. ⌜ made r (λ out. Ends-in verdict (vec-items out)) ⌝ }
+{
+    let mut out = body.into_bytes();
+    out.extend_from_slice(&verdict)?;
+    Ok(out)
+}
+
 // The whole listing of a table's text. It ends in the verdict on it.
 pub fn list_table(heap: Global, text: &[u8]) -> Result<Vec<u8>, AllocError>
     ensures { λ r. ⌜ made r (λ out. Ends-in (verdict-on (now (text .entry))) (vec-items out)) ⌝ }
@@ -84,7 +93,5 @@ pub fn list_table(heap: Global, text: &[u8]) -> Result<Vec<u8>, AllocError>
         }
         Err(fault) => refusal(heap, text, fault)?,
     };
-    let mut out = body.into_bytes();
-    out.extend_from_slice(&verdict)?;
-    Ok(out)
+    ended(body, verdict)
 }

@@ -11,7 +11,7 @@ const HELP: &'static str = "listing: a table for people to read
                       then its instructions, each with its effect on the stack
   listing --help      prints this
 
-A ! marks a letter or an operand that the instruction must not have, or a letter that it lacks.
+A ! marks a letter or an operand where the instruction takes none, and a - where a letter is due.
 The last line is z, a number and a place: 0 and the count of instructions, or why the text was
 refused and the line.
 ";
