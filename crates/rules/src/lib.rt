@@ -1,0 +1,4 @@
+// The rules of tables and of operands, and what each instruction takes, gives and where it goes.
+pub mod fault;
+pub mod lookup;
+pub mod procedures;
