@@ -1,1 +1,3 @@
+pub mod Decided
 mod Lookups
+pub mod ProcedureLaws

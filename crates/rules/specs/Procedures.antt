@@ -3,8 +3,8 @@
 --   form-ok: any other has a parent of lower number, and begins after the one before
 --   depth-ok: at most 7 parents lead to procedure 0: there is no 8th ancestor
 --   sizes-ok: at most 250 data cells, of which at most 35 are parameters
---   cells-end: where the cells of the procedures before n end in the list
---   cells-ok: the cells of a procedure begin there and end inside the list
+--   start-of, end-of: where the cells of procedure n must begin, after those of the one before it, and where they end
+--   cells-ok: the cells of a procedure begin where they must and end inside the list
 --   counts-ok: 1 to 4,096 instructions and 1 to 64 procedures
 --   table-fault: at 0 for the counts, else at the lowest procedure that breaks a rule
 use mathlib.Core.Bool.{Bool, cond, not, _&&_}
@@ -33,11 +33,14 @@ depth-ok T n = not (isSome (ancestor T 8 n))
 abbrev pub sizes-ok : Procedure → Bool
 sizes-ok P = leb (P .parameters) 35 && (leb (P .parameters) (P .count) && leb (P .count) 250)
 
-abbrev pub cells-end : Contents → ℕ → ℕ
-cells-end T n = cond (eqb n 0) 0 (procedure-at T (n - 1) .offset + procedure-at T (n - 1) .count)
+abbrev pub end-of : Procedure → ℕ
+end-of P = P .offset + P .count
+
+abbrev pub start-of : Contents → ℕ → ℕ
+start-of T n = cond (eqb n 0) 0 (end-of (procedure-at T (n - 1)))
 
 abbrev pub cells-ok : Contents → ℕ → Procedure → Bool
-cells-ok T n P = eqb (P .offset) (cells-end T n) && leb (P .offset + P .count) (length (T .cells))
+cells-ok T n P = eqb (P .offset) (start-of T n) && leb (end-of P) (length (T .cells))
 
 abbrev pub procedure-ok : Contents → ℕ → Procedure → Bool
 procedure-ok T n P = form-ok T n P && (ltb (P .first) (length (T .code)) && (depth-ok T n && (sizes-ok P && cells-ok T n P)))

@@ -1,7 +1,8 @@
 // The rules of tables.
 ghost use mathlib.Core.Path.{_≡_};
 ghost use Rattle.rules.specs.Lookups.{contents-of};
-ghost use Rattle.rules.specs.Procedures.{main-ok, form-ok, depth-ok, sizes-ok, cells-ok, procedure-ok, counts-ok, table-fault};
+ghost use Rattle.rules.specs.Procedures.{main-ok, form-ok, depth-ok, sizes-ok, end-of, start-of, cells-ok, procedure-ok, counts-ok, table-fault};
+ghost use Rattle.rules.specs.ProcedureLaws.{Table-is-checked, Table-names};
 ghost use Rattle.rules.specs.Faults.{passed};
 use crate::fault::TableFault;
 use crate::lookup::ancestor;
@@ -38,4 +39,58 @@ fn sizes_ok(procedure: Procedure) -> bool
     ensures { λ r. ⌜ r ≡ sizes-ok procedure ⌝ }
 {
     procedure.parameters <= 35 && procedure.parameters <= procedure.count && procedure.count <= 250
+}
+// Wide, since the offset may be any number.
+fn end_of(procedure: Procedure) -> u128
+    ensures { λ r. ⌜ r ≡ end-of procedure ⌝ }
+{
+    procedure.offset as u128 + procedure.count as u128
+}
+
+// Where the cells of procedure n must begin: after those of the one before it.
+fn start_of(table: Table<'_>, n: usize) -> u128
+    ensures { λ r. ⌜ r ≡ start-of (contents-of (table .entry)) n ⌝ }
+{
+    if n == 0 { 0 } else { end_of(procedure_at(table, n - 1)) }
+}
+
+fn cells_ok(table: Table<'_>, n: usize, procedure: Procedure) -> bool
+    ensures { λ r. ⌜ r ≡ cells-ok (contents-of (table .entry)) n procedure ⌝ }
+{
+    procedure.offset as u128 == start_of(table, n) && end_of(procedure) <= table.cells.len() as u128
+}
+
+fn procedure_ok(table: Table<'_>, n: usize, procedure: Procedure) -> bool
+    ensures { λ r. ⌜ r ≡ procedure-ok (contents-of (table .entry)) n procedure ⌝ }
+{
+    form_ok(table, n, procedure)
+        && (procedure.first as usize) < table.code.len()
+        && depth_ok(table, n)
+        && sizes_ok(procedure)
+        && cells_ok(table, n, procedure)
+}
+
+fn counts_ok(table: Table<'_>) -> bool
+    ensures { λ r. ⌜ r ≡ counts-ok (contents-of (table .entry)) ⌝ }
+{
+    let code = table.code.len();
+    let procedures = table.procedures.len();
+    (1 <= code && code <= 4096) && (1 <= procedures && procedures <= 64)
+}
+
+// Refuses a table that breaks one of the rules of tables.
+pub fn check_table(table: Table<'_>) -> Result<(), TableFault>
+    ensures value { λ r. ⌜ r ≡ passed (table-fault (contents-of (table .entry))) ⌝ }
+    ensures law { λ _. ⌜ Table-is-checked ⌝ }
+    ensures names { λ _. ⌜ Table-names ⌝ }
+{
+    if !counts_ok(table) {
+        return Err(TableFault::IllFormed(0));
+    }
+    for (n, procedure) in table.procedures.iter().enumerate() {
+        if !procedure_ok(table, n, *procedure) {
+            return Err(TableFault::IllFormed(n));
+        }
+    }
+    Ok(())
 }
