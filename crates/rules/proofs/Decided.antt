@@ -92,7 +92,7 @@ module _ {X : Type 0} (f : ℕ → X → Bool) (Rule : ℕ → X → Type 0) (ea
   first-fails n e =
       let r = fails-from f 0 xs n e in
       let w : Breaks-first Rule xs (r .0) = (
-          (r .1, r .3, λ h. false≢true (sym (subst (λ m. f m (r .1) ≡ false) (zero-add (r .0)) (r .4)) ∙ each (r .0) (r .1) .1 h)),
-          λ k z l g. each k z .0 (subst (λ m. f m z ≡ true) (zero-add k) (r .5 k z l g)),
+        (r .1, r .3, λ h. false≢true (sym (subst (λ m. f m (r .1) ≡ false) (zero-add (r .0)) (r .4)) ∙ each (r .0) (r .1) .1 h)),
+        λ k z l g. each k z .0 (subst (λ m. f m z ≡ true) (zero-add k) (r .5 k z l g)),
       ) in
       subst (Breaks-first Rule xs) (sym (r .2 ∙ zero-add (r .0))) w

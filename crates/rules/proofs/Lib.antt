@@ -1,3 +1,4 @@
 pub mod Decided
 mod Lookups
+pub mod OperandLaws
 pub mod ProcedureLaws

@@ -42,29 +42,29 @@ form T (suc m) P =
     let b = ltb (P .parent) (suc m) && ltb (procedure-at T (suc m - 1) .first) (P .first) in
     decides-at (form-ok T (suc m) P) b (ap (λ t. cond t (main-ok P) b) (ne-eqb (suc m) 0 (λ w. omega arith)))
     (decides-like b (λ h. ((λ e. absurd (omega arith)), (λ _. h .0), λ _. h .1)) (λ h. (h .1 (omega arith), h .2 (omega arith)))
-      (decides-and _ _ (decides-ltb (P .parent) (suc m)) (decides-ltb (procedure-at T (suc m - 1) .first) (P .first))))
+    (decides-and _ _ (decides-ltb (P .parent) (suc m)) (decides-ltb (procedure-at T (suc m - 1) .first) (P .first))))
 
 pub procedure-rule : (T : Contents) (n : ℕ) (P : Procedure) → Decides (procedure-ok T n P) (Procedure-rule T n P)
 procedure-rule T n P =
     decides-like (procedure-ok T n P)
-    (λ h. record
-      { main = h .0 .0
-      ; parent-is-lower = h .0 .1
-      ; first-rises = h .0 .2
-      ; first-is-inside = h .1 .0
-      ; depth = h .1 .1 .0
-      ; few-parameters = h .1 .1 .1 .0 .0
-      ; parameters-are-cells = h .1 .1 .1 .0 .1 .0
-      ; few-cells = h .1 .1 .1 .0 .1 .1
-      ; cells-follow = h .1 .1 .1 .1 .0
-      ; cells-are-there = h .1 .1 .1 .1 .1
-      })
+    (λ h. record {
+      main = h .0 .0;
+      parent-is-lower = h .0 .1;
+      first-rises = h .0 .2;
+      first-is-inside = h .1 .0;
+      depth = h .1 .1 .0;
+      few-parameters = h .1 .1 .1 .0 .0;
+      parameters-are-cells = h .1 .1 .1 .0 .1 .0;
+      few-cells = h .1 .1 .1 .0 .1 .1;
+      cells-follow = h .1 .1 .1 .1 .0;
+      cells-are-there = h .1 .1 .1 .1 .1;
+    })
     (λ r. (
       (r .main, r .parent-is-lower, r .first-rises),
       (r .first-is-inside, (r .depth, ((r .few-parameters, (r .parameters-are-cells, r .few-cells)), (r .cells-follow, r .cells-are-there)))),
     ))
     (decides-and _ _ (form T n P) (decides-and _ _ (decides-ltb _ _) (decides-and _ _ (decides-none (ancestor T 8 n))
-      (decides-and _ _ (decides-and _ _ (decides-leb _ _) (decides-and _ _ (decides-leb _ _) (decides-leb _ _))) (decides-and _ _ (decides-eqb _ _) (decides-leb _ _))))))
+    (decides-and _ _ (decides-and _ _ (decides-leb _ _) (decides-and _ _ (decides-leb _ _) (decides-leb _ _))) (decides-and _ _ (decides-eqb _ _) (decides-leb _ _))))))
 
 pub counts-rule : (T : Contents) → Decides (counts-ok T) (Counts-rule T)
 counts-rule T =
@@ -98,10 +98,11 @@ table-is-checked T = (see (counts-ok T) refl, back)
   where
     see : (b : Bool) → counts-ok T ≡ b → cond b (found T) (Some (IllFormed 0)) ≡ None → Table-rule T
     see false c e = absurd (let z : _≡_ {A = ℕ} 0 1 = cc in omega arith)
-    see true c e = record
-      { counts = counts-rule T .0 c
-      ; each = none-fails (procedure-ok T) (Procedure-rule T) (procedure-rule T) (T .procedures) (unmapped-none _ IllFormed e)
-      }
+    see true c e = record {
+      counts = counts-rule T .0 c;
+      each = none-fails (procedure-ok T) (Procedure-rule T) (procedure-rule T) (T .procedures) (unmapped-none _ IllFormed e);
+    }
+
     back : Table-rule T → table-fault T ≡ None
     back r =
         ap (λ b. cond b (found T) (Some (IllFormed 0))) (counts-rule T .1 (r .counts))

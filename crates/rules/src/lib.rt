@@ -1,4 +1,6 @@
 // The rules of tables and of operands, and what each instruction takes, gives and where it goes.
 pub mod fault;
+mod letters;
 pub mod lookup;
+pub mod operands;
 pub mod procedures;

@@ -51,7 +51,11 @@ fn end_of(procedure: Procedure) -> u128
 fn start_of(table: Table<'_>, n: usize) -> u128
     ensures { λ r. ⌜ r ≡ start-of (contents-of (table .entry)) n ⌝ }
 {
-    if n == 0 { 0 } else { end_of(procedure_at(table, n - 1)) }
+    if n == 0 {
+        0
+    } else {
+        end_of(procedure_at(table, n - 1))
+    }
 }
 
 fn cells_ok(table: Table<'_>, n: usize, procedure: Procedure) -> bool
