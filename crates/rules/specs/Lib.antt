@@ -1,3 +1,4 @@
+pub mod Effects
 pub mod Faults
 pub mod Letters
 pub mod Lookups

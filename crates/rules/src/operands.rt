@@ -1,11 +1,10 @@
 // The rules of letters and operands.
 ghost use mathlib.Core.Path.{_≡_};
-ghost use mathlib.Core.Bool.{not};
 ghost use Prim.Native.Nat.{_+_};
 ghost use lib.Dec.{leb};
 ghost use Rattle.std.specs.Finite.{nth};
-ghost use Rattle.rules.specs.Lookups.{contents-of, procedure-at, ancestor};
-ghost use Rattle.rules.specs.Operands.{holds, is-zero, unused-ok, is-cell, kind-at, constant-ok, cell-ok, variable-ok, local-ok, address-ok, label-ok, call-ok, enter-ok, rule-ok, ent-ok, shape-ok, instruction-ok, operand-fault};
+ghost use Rattle.rules.specs.Lookups.{contents-of};
+ghost use Rattle.rules.specs.Operands.{holds, is-zero, unused-ok, is-cell, kind-at, constant-ok, cell-ok, variable-ok, local-ok, address-ok, label-ok, call-ok, enter-ok, rule-ok, ent-ok, instruction-ok, operand-fault};
 ghost use Rattle.rules.specs.OperandLaws.{Instruction-is-checked, Operands-are-checked, Operands-name};
 ghost use Rattle.rules.specs.Faults.{passed};
 use crate::fault::TableFault;
@@ -25,6 +24,9 @@ use sheet::table::Table;
 
 // The offset of the first data cell in a frame.
 const FIRST_CELL: usize = 5;
+
+// How many cells of stack an ent may allow.
+const MOST_ROOM: usize = 40;
 
 fn is_zero(operand: i32) -> bool
     ensures { λ r. ⌜ r ≡ is-zero operand ⌝ }
@@ -142,7 +144,7 @@ fn call_ok(table: Table<'_>, p: usize, q: usize) -> bool
 fn enter_ok(procedure: Procedure, p: usize, q: usize) -> bool
     ensures { λ r. ⌜ r ≡ enter-ok procedure p q ⌝ }
 {
-    p <= 40 && q == FIRST_CELL + procedure.count as usize
+    p <= MOST_ROOM && q == FIRST_CELL + procedure.count as usize
 }
 
 // Whether p and q name what the rule asks, for an instruction of procedure o.

@@ -10,6 +10,17 @@ use crate::lookup::procedure_at;
 use sheet::procedure::Procedure;
 use sheet::table::Table;
 
+const MOST_CODE: usize = 4096;
+
+const MOST_PROCEDURES: usize = 64;
+
+const MOST_CELLS: u16 = 250;
+
+const MOST_PARAMETERS: u16 = 35;
+
+// How many parents may lead from a procedure to procedure 0.
+const MOST_PARENTS: usize = 7;
+
 fn main_ok(procedure: Procedure) -> bool
     ensures { λ r. ⌜ r ≡ main-ok procedure ⌝ }
 {
@@ -28,18 +39,20 @@ fn form_ok(table: Table<'_>, n: usize, procedure: Procedure) -> bool
     (procedure.parent as usize) < n && procedure_at(table, n - 1).first < procedure.first
 }
 
-// The 8th ancestor of a procedure would be one too many.
 fn depth_ok(table: Table<'_>, n: usize) -> bool
     ensures { λ r. ⌜ r ≡ depth-ok (contents-of (table .entry)) n ⌝ }
 {
-    ancestor(table, 8, n).is_none()
+    ancestor(table, MOST_PARENTS + 1, n).is_none()
 }
 
 fn sizes_ok(procedure: Procedure) -> bool
     ensures { λ r. ⌜ r ≡ sizes-ok procedure ⌝ }
 {
-    procedure.parameters <= 35 && procedure.parameters <= procedure.count && procedure.count <= 250
+    procedure.parameters <= MOST_PARAMETERS
+        && procedure.parameters <= procedure.count
+        && procedure.count <= MOST_CELLS
 }
+
 // Wide, since the offset may be any number.
 fn end_of(procedure: Procedure) -> u128
     ensures { λ r. ⌜ r ≡ end-of procedure ⌝ }
@@ -79,7 +92,7 @@ fn counts_ok(table: Table<'_>) -> bool
 {
     let code = table.code.len();
     let procedures = table.procedures.len();
-    (1 <= code && code <= 4096) && (1 <= procedures && procedures <= 64)
+    (1 <= code && code <= MOST_CODE) && (1 <= procedures && procedures <= MOST_PROCEDURES)
 }
 
 // Refuses a table that breaks one of the rules of tables.
