@@ -2,16 +2,15 @@
 use mathlib.Core.Path.{_≡_, _∙_, subst, sym, ap, refl}
 use mathlib.Core.List.{List, [], _∷_, _++_, append-assoc, reverse}
 use Prim.Native.Nat.{ℕ, _+_, _-_, _<_, _≤_, min}
-use native.Mathlib.Decide.{decLe}
 use native.Mathlib.Omega.{arith}
 use lib.ListN.{length, getD, take, drop, set, replicate}
 use Rattle.std.specs.Runs.{nth}
 use Rattle.std.specs.declared.option.Option.the-variants.{Some, None}
-use Rattle.std.proofs.shelf.Lists.{take-more, take-more-set, drop-more, set-append-right, length-replicate, replicate-more, reverse-append, length-reverse, length-take-le, nil-from-length, drop-all}
+use Rattle.std.proofs.shelf.Lists.{take-more, take-more-set, drop-more, set-append-right, length-replicate, replicate-more, reverse-append, length-reverse, length-take-le, nil-from-length}
 use Rattle.pile.specs.declared.Pile.{Pile}
 use Rattle.pile.specs.Piles.{held, bottom-first, places-of, depth, room, blanked}
 
-last-off : {X : Type 0} (xs : List X) (n : ℕ) (d : X) → (n ≡ 0 → ⊥) → n ≤ length xs
+last-off : {X : Type 0} (xs : List X) (n : ℕ) (d : X) → 0 < n → n ≤ length xs
     → take n xs ≡ take (n - 1) xs ++ getD xs (n - 1) d ∷ []
 last-off xs n d ne le =
     let e : n - 1 + 1 ≡ n = omega arith in
@@ -21,7 +20,7 @@ last-off xs n d ne le =
 pub held-more : {X : Type 0} (xs : List X) (n : ℕ) (x : X) → n < length xs → reverse (take (n + 1) (set xs n x)) ≡ x ∷ reverse (take n xs)
 held-more xs n x h = ap reverse (take-more-set xs n x h) ∙ reverse-append (take n xs) (x ∷ [])
 
-pub held-less : {X : Type 0} (xs : List X) (n : ℕ) (d : X) → (n ≡ 0 → ⊥) → n ≤ length xs
+pub held-less : {X : Type 0} (xs : List X) (n : ℕ) (d : X) → 0 < n → n ≤ length xs
     → reverse (take n xs) ≡ getD xs (n - 1) d ∷ reverse (take (n - 1) xs)
 held-less xs n d z h = ap reverse (last-off xs n d z h) ∙ reverse-append (take (n - 1) xs) (getD xs (n - 1) d ∷ [])
 
@@ -54,18 +53,6 @@ fill-more xs i x h =
     a ∙ ap (λ k. replicate i x ++ set (drop i xs) k x) z ∙ ap (λ l. replicate i x ++ l) b
     ∙ sym (append-assoc (replicate i x) (x ∷ []) (drop (i + 1) xs)) ∙ ap (λ l. l ++ drop (i + 1) xs) (replicate-more i x)
 
-drop-min : {X : Type 0} (n : ℕ) (xs : List X) → Dec (n ≤ length xs) → drop (min n (length xs)) xs ≡ drop n xs
-drop-min n xs (yes l) = let z : min n (length xs) ≡ n = omega arith in ap (λ k. drop k xs) z
-drop-min n xs (no m) =
-    let z : min n (length xs) ≡ length xs = omega arith in
-    ap (λ k. drop k xs) z ∙ drop-all (length xs) xs (omega arith) ∙ sym (drop-all n xs (omega arith))
-
--- every place of the front is filled: e is where the loop ends
-pub fill-all : {X : Type 0} (xs ys : List X) (n e i : ℕ) (x : X) → ys ≡ replicate i x ++ drop i xs → e ≡ min n (length xs) → e ≤ i → i ≤ e → ys ≡ blanked n x xs
-fill-all xs ys n e i x f g a b =
-    let h : i ≡ min n (length xs) = omega arith in
-    f ∙ ap (λ k. replicate k x ++ drop k xs) h ∙ ap (λ l. replicate (min n (length xs)) x ++ l) (drop-min n xs (decLe n (length xs)))
-
 -- for callers that lend places enough
 pub blanked-whole : {X : Type 0} (n : ℕ) (x : X) (xs : List X) → n ≤ length xs → blanked n x xs ≡ replicate n x ++ drop n xs
-blanked-whole n x xs h = let z : min n (length xs) ≡ n = omega arith in ap (λ k. replicate k x ++ drop n xs) z
+blanked-whole n x xs h = let z : min n (length xs) ≡ n = omega arith in ap (λ k. replicate k x ++ drop k xs) z

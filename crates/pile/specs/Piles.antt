@@ -42,4 +42,4 @@ abbrev pub answer : {T : Type 0} → Pile T → Result (Unit {0}) Full
 answer p = cond (ltb (depth p) (room p)) (Ok tt) (Err (record {}))
 
 abbrev pub blanked : {T : Type 0} → ℕ → T → List T → List T
-blanked n x xs = replicate (min n (length xs)) x ++ drop n xs
+blanked n x xs = replicate (min n (length xs)) x ++ drop (min n (length xs)) xs

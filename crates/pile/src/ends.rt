@@ -27,12 +27,11 @@ impl<'a, T: Copy> Pile<'a, T> {
         ensures value { λ r. ⌜ r ≡ answer (now (self .entry)) ⌝ }
         ensures held { λ r. ⌜ Cases r (λ _. held (now (self .exit)) ≡ x ∷ held (now (self .entry))) (λ _. held (now (self .exit)) ≡ held (now (self .entry))) ⌝ }
         ensures len { λ r. ⌜ Cases r (λ _. depth (now (self .exit)) ≡ depth (now (self .entry)) + 1) (λ _. depth (now (self .exit)) ≡ depth (now (self .entry))) ⌝ }
-        ensures places { λ _. ⌜ places-of (now (self .exit)) ≡ set (places-of (now (self .entry))) (depth (now (self .entry))) x ⌝ }
+        ensures places { λ r. ⌜ Cases r (λ _. places-of (now (self .exit)) ≡ set (places-of (now (self .entry))) (depth (now (self .entry))) x) (λ _. places-of (now (self .exit)) ≡ places-of (now (self .entry))) ⌝ }
         ensures room { λ _. ⌜ room (now (self .exit)) ≡ room (now (self .entry)) ⌝ }
     {
         if self.taken < self.places.len() {
-            self.places[self.taken] = x;
-            self.taken += 1;
+            self.put(x);
             Ok(())
         } else {
             Err(Full)
@@ -52,8 +51,7 @@ impl<'a, T: Copy> Pile<'a, T> {
         if self.taken == 0 {
             None
         } else {
-            self.taken -= 1;
-            Some(self.places[self.taken])
+            Some(self.lift())
         }
     }
 }

@@ -2,6 +2,7 @@
 mod ends;
 mod fill;
 mod looks;
+mod slots;
 
 ghost use Prim.Native.Nat.{_≤_};
 ghost use lib.ListN.{length};

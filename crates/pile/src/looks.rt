@@ -1,21 +1,20 @@
 // What a pile holds, read without a change.
 ghost use mathlib.Core.Path.{_≡_};
-ghost use lib.ListN.{length};
 ghost use lib.Dec.{eqb};
 ghost use Rattle.std.specs.Runs.{nth};
-ghost use Rattle.pile.specs.Piles.{held, bottom-first, depth, top-of};
+ghost use Rattle.pile.specs.Piles.{bottom-first, depth, top-of};
 use super::Pile;
+use super::slots::fetch;
 
 impl<'a, T: Copy> Pile<'a, T> {
     pub fn len(&self) -> usize
-        ensures value { λ r. ⌜ r ≡ length (held (now (self .entry))) ⌝ }
-        ensures depth { λ r. ⌜ r ≡ depth (now (self .entry)) ⌝ }
+        ensures { λ r. ⌜ r ≡ depth (now (self .entry)) ⌝ }
     {
         self.taken
     }
 
     pub fn is_empty(&self) -> bool
-        ensures { λ r. ⌜ r ≡ eqb (length (held (now (self .entry)))) 0 ⌝ }
+        ensures { λ r. ⌜ r ≡ eqb (depth (now (self .entry))) 0 ⌝ }
     {
         self.len() == 0
     }
@@ -27,8 +26,7 @@ impl<'a, T: Copy> Pile<'a, T> {
         if self.taken == 0 {
             None
         } else {
-            let places: &[T] = self.places;
-            Some(places[self.taken - 1])
+            Some(self.peek())
         }
     }
 
@@ -36,11 +34,6 @@ impl<'a, T: Copy> Pile<'a, T> {
     pub fn at(&self, i: usize) -> Option<T>
         ensures { λ r. ⌜ r ≡ nth (bottom-first (now (self .entry))) i ⌝ }
     {
-        if i < self.taken {
-            let places: &[T] = self.places;
-            Some(places[i])
-        } else {
-            None
-        }
+        fetch(&self.places[..self.taken], i)
     }
 }
