@@ -50,6 +50,13 @@ pub fn read_case(line: &str) -> Option<Case<'_>> {
     Some(Case { name, room, recipe })
 }
 
+pub fn read_value_case(line: &str) -> Option<(&str, usize)> {
+    let mut words = line.split_whitespace();
+    let name = words.next()?;
+    let room = read_count(words.next())?;
+    Some((name, room))
+}
+
 impl Recipe<'_> {
     pub fn text(self, heap: Global) -> Result<String, AllocError> {
         let mut text = String::new(heap);
