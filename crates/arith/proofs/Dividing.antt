@@ -1,6 +1,5 @@
 -- The quotient toward zero and the remainder make up the dividend.
 use mathlib.Core.Path.{_≡_, refl, sym, ap, subst, _∙_}
-use mathlib.Core.Bool.{Bool, true, false, cond}
 use Prim.Native.Nat.{ℕ, zero, suc, _+_, _*_, _/_, _%_, _<_}
 use native.Mathlib.Nat.{zero-mul, div-add-mod', mod-lt}
 use native.Mathlib.Omega.{arith}
@@ -8,9 +7,8 @@ use lib.IntN.{ℤ, pos, negsuc, negℤ, natAbs, _+ℤ_, _*ℤ_, zero-*ℤ, neg�
 use lib.Signed.{quotZ, remZ, _≤ℤ_}
 use Rattle.std.proofs.shelf.Signed.{ints}
 use Rattle.std.proofs.shelf.Ways.{tells}
-use Rattle.std.specs.declared.option.Option.{Option}
-use Rattle.std.specs.declared.option.Option.the-variants.{Some, None}
-use Rattle.arith.specs.Quotients.{Divides, On-its-side, is-zero, whole-quotient, fits-wide}
+use Rattle.std.specs.declared.option.Option.the-variants.{Some}
+use Rattle.arith.specs.Quotients.{Divides, On-its-side, whole-quotient}
 
 whole : (a b : ℕ) → a / b * b + a % b ≡ a
 whole a b = div-add-mod' a b
@@ -33,7 +31,7 @@ makes-up (negsuc a) (pos b) =
     ap (λ z. z +ℤ negℤ (pos (suc a % b))) (down-up (suc a / b) b) ∙ sums (suc a / b * b) (suc a % b) ∙ ap (λ n. negℤ (pos n)) (whole (suc a) b)
 makes-up (negsuc a) (negsuc b) = sums (suc a / suc b * suc b) (suc a % suc b) ∙ ap (λ n. negℤ (pos n)) (whole (suc a) (suc b))
 
-size-of-negative : (n : ℕ) → natAbs (negℤ (pos n)) ≡ n
+pub size-of-negative : (n : ℕ) → natAbs (negℤ (pos n)) ≡ n
 size-of-negative zero = refl
 size-of-negative (suc n) = refl
 

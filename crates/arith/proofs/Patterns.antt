@@ -8,7 +8,11 @@ use lib.Ieee.{Float, nan, inf, fin, binary64, fits, isNan, ofBits, toBits}
 use lib.Ieee.Bits.{ofBits-toBits, toBits-ofBits}
 use Rattle.std.specs.Floats.{finite}
 use Rattle.std.specs.declared.option.Option.the-variants.{Some, None}
-use Rattle.arith.specs.Reals.{pattern-of, of-pattern}
+use Rattle.std.specs.declared.result.Result.the-variants.{Ok}
+use Rattle.std.specs.Results.{okPart}
+use Rattle.sheet.specs.declared.stop.Stop.the-variants.{OutsideKind}
+use Rattle.arith.specs.Answers.{demand, _>>_}
+use Rattle.arith.specs.Reals.{pattern-of, of-pattern, real-of}
 
 number-if-finite : (x : Float) → finite x ≡ true → T (not (isNan x))
 unfolding finite isNan
@@ -22,9 +26,19 @@ kept x h = ap (λ b. cond b (Some x) None) h
 pub real-back : (x : Float) → fits binary64 x ≡ true → finite x ≡ true → of-pattern (pattern-of x) ≡ Some x
 real-back x f h = ap (λ y. cond (finite y) (Some y) None) (ofBits-toBits binary64 x (subst T (sym f) tt)) ∙ kept x h
 
-pub bits-back : (b : ℕ) (x y : Float) → b < 2 ^ 64 → y ≡ ofBits binary64 b → finite y ≡ true → Some y ≡ Some x → pattern-of x ≡ b
-bits-back b x y l e h s =
-    let same : y ≡ x = cc in
-    let is : ofBits binary64 b ≡ x = sym e ∙ same in
-    let number : T (not (isNan (ofBits binary64 b))) = number-if-finite (ofBits binary64 b) (ap finite (sym e) ∙ h) in
-    ap (toBits binary64) (sym is) ∙ toBits-ofBits binary64 b l number
+of-kept : (b : Bool) (x y : Float) → cond b (Some y) None ≡ Some x → (b ≡ true) × (y ≡ x)
+of-kept true x y e = (refl, cc)
+of-kept false x y e = (cc, cc)
+
+pub bits-back : (b : ℕ) (x : Float) → b < 2 ^ 64 → of-pattern b ≡ Some x → pattern-of x ≡ b
+bits-back b x l e =
+    let parts = of-kept (finite (ofBits binary64 b)) x (ofBits binary64 b) e in
+    ap (toBits binary64) (sym (parts .1)) ∙ toBits-ofBits binary64 b l (number-if-finite (ofBits binary64 b) (parts .0))
+
+-- a real that was tested is there where it is finite
+tested : (b : Bool) (x : Float) → okPart (demand b OutsideKind >> Ok x) ≡ cond b (Some x) None
+tested true x = refl
+tested false x = refl
+
+pub kept-part : (x : Float) → okPart (real-of x) ≡ cond (finite x) (Some x) None
+kept-part x = tested (finite x) x

@@ -1,22 +1,22 @@
 -- Results of integers in 128 bits: none of them is cut off.
-use mathlib.Core.Path.{_≡_, refl, sym, ap, subst, _∙_}
-use mathlib.Core.Bool.{Bool, true, false, cond}
-use Prim.Native.Nat.{ℕ, zero, suc, _+_, _*_, _/_, _^_, _≤_, _<_}
+use mathlib.Core.Path.{_≡_, refl, ap, _∙_}
+use mathlib.Core.Bool.{true}
+use Prim.Native.Nat.{ℕ, suc, _+_, _*_, _^_, _≤_}
 use native.Mathlib.Nat.{div-le-self, mul-le-mul}
 use native.Mathlib.Omega.{arith}
 use mir.Syntax.{w32, w128}
 use mir.Val.{SFits, toZ, ofZ}
 use lib.IntN.{ℤ, pos, negsuc, negℤ, natAbs, _+ℤ_, _*ℤ_}
-use lib.Signed.{quotZ, mag}
+use lib.Signed.{quotZ}
 use Rattle.std.proofs.shelf.Signed.{ints, toZ-ofZ}
 use Rattle.std.proofs.shelf.Ways.{tells}
 use Rattle.std.specs.declared.option.Option.the-variants.{Some, None}
 use Rattle.std.specs.declared.result.Result.the-variants.{Err}
 use Rattle.sheet.specs.declared.operation.Arithmetic.the-variants.{Div}
 use Rattle.sheet.specs.declared.stop.Stop.the-variants.{ZeroDivisor}
-use Rattle.arith.specs.Answers.{Answer}
 use Rattle.arith.specs.Integers.{integer-of, integer-arithmetic}
-use Rattle.arith.specs.Quotients.{whole-quotient, fits-wide, is-zero}
+use Rattle.arith.proofs.Dividing.{size-of-negative}
+use Rattle.arith.specs.Quotients.{whole-quotient, fits-wide}
 
 -- a number as 128 bits hold it
 abbrev cast : ℤ → ℤ
@@ -50,10 +50,6 @@ no-quotient x y h e = let f : fits-wide (quotZ x y) ≡ true = quotient-fits x y
 size-of : (z : ℤ) → SFits w32 z → natAbs z ≤ 2 ^ 31
 size-of (pos n) h = omega arith
 size-of (negsuc n) h = omega arith
-
-size-of-negative : (n : ℕ) → natAbs (negℤ (pos n)) ≡ n
-size-of-negative zero = refl
-size-of-negative (suc n) = refl
 
 size-of-product : (x y : ℤ) → natAbs (x *ℤ y) ≡ natAbs x * natAbs y
 size-of-product (pos a) (pos b) = refl

@@ -5,7 +5,6 @@
 --   Proper: what is given is a value: a real is finite
 use mathlib.Core.Path.{_≡_}
 use mathlib.Core.Bool.{true, _&&_, _||_, not}
-use Prim.Native.Nat.{ℕ}
 use lib.IntN.{ℤ, pos, negℤ, _+ℤ_, _-ℤ_, _*ℤ_}
 use lib.Ieee as Ieee
 use lib.Ieee.{Float}

@@ -5,8 +5,8 @@
 --   Divides: quotient times divisor plus remainder is the dividend. The remainder is smaller than the divisor,
 --     and is zero or on the dividend's side of zero
 use mathlib.Core.Path.{_≡_}
-use mathlib.Core.Bool.{Bool, true, false, cond, _&&_}
-use Prim.Native.Nat.{ℕ, _-_, _<_, _^_}
+use mathlib.Core.Bool.{Bool, cond, _&&_}
+use Prim.Native.Nat.{_-_, _<_, _^_}
 use lib.Dec.{eqb}
 use lib.IntN.{ℤ, pos, negsuc, natAbs, _+ℤ_, _*ℤ_}
 use lib.Signed.{leZ, quotZ, _≤ℤ_}

@@ -4,7 +4,6 @@
 --   rank: false below true
 --   relation: of two values of one kind
 use mathlib.Core.Bool.{Bool, true, false, cond, not}
-use Prim.Native.Nat.{ℕ}
 use lib.Dec.{eqb}
 use lib.IntN.{ℤ, pos, negsuc}
 use lib.Ieee as Ieee

@@ -8,5 +8,11 @@ pub fn quotient(dividend: i128, divisor: i128) -> Option<i128>
     ensures value { λ r. ⌜ r ≡ whole-quotient dividend divisor ⌝ }
     ensures law { λ r. ⌜ ((q : ℤ) → r ≡ Some q → Divides dividend divisor q) ⌝ }
 {
+    toward_zero(dividend, divisor)
+}
+
+fn toward_zero(dividend: i128, divisor: i128) -> Option<i128>
+    ensures { λ r. ⌜ r ≡ whole-quotient dividend divisor ⌝ }
+{
     dividend.checked_div(divisor)
 }

@@ -2,15 +2,16 @@
 ghost use mathlib.Core.Path.{_≡_};
 ghost use Rattle.arith.specs.Operations.{arithmetic, binary-result, conversion, decrement, increment, index, negation, unary-result, Proper};
 ghost use Rattle.arith.specs.Relations.{relation};
-use crate::integer;
+use crate::exact;
 use crate::payload::address_in;
 use crate::payload::boolean_in;
 use crate::payload::character_in;
 use crate::payload::integer_in;
 use crate::payload::real_in;
-use crate::real;
+use crate::real::real_from_integer;
 use crate::relation::integers_stand;
 use crate::relation::reals_stand;
+use crate::rounded;
 use sheet::kind::Kind;
 use sheet::operation::Arithmetic;
 use sheet::operation::Binary;
@@ -54,7 +55,7 @@ pub fn unary(op: Unary, x: Value) -> Result<Value, Stop>
         Unary::Not => Ok(Value::Boolean(!boolean_in(x)?)),
         Unary::Increment(ordinal, q) => incremented(ordinal, q, x),
         Unary::Decrement(ordinal, q) => decremented(ordinal, q, x),
-        Unary::Check(p, q) => Ok(Value::Integer(integer::checked(p, q, integer_in(x)?)?)),
+        Unary::Check(p, q) => Ok(Value::Integer(exact::checked(p, q, integer_in(x)?)?)),
         Unary::Convert(conversion) => converted(conversion, x),
     }
 }
@@ -66,12 +67,12 @@ fn computed(op: Arithmetic, numeric: Numeric, lower: Value, top: Value) -> Resul
         Numeric::Integer => {
             let left = integer_in(lower)?;
             let right = integer_in(top)?;
-            Ok(Value::Integer(integer::arithmetic(op, left, right)?))
+            Ok(Value::Integer(exact::arithmetic(op, left, right)?))
         }
         Numeric::Real => {
             let left = real_in(lower)?;
             let right = real_in(top)?;
-            Ok(Value::Real(real::arithmetic(op, left, right)?))
+            Ok(Value::Real(rounded::arithmetic(op, left, right)?))
         }
     }
 }
@@ -114,7 +115,7 @@ fn indexed(q: i32, lower: Value, top: Value) -> Result<Value, Stop>
 {
     let address = address_in(lower)?;
     let i = integer_in(top)?;
-    let place = integer::indexed(address.0, i, q)?;
+    let place = exact::indexed(address.0, i, q)?;
     Ok(Value::Address(StorePlace(place)))
 }
 
@@ -122,8 +123,8 @@ fn negated(numeric: Numeric, x: Value) -> Result<Value, Stop>
     ensures { λ r. ⌜ r ≡ negation numeric x ⌝ }
 {
     match numeric {
-        Numeric::Integer => Ok(Value::Integer(integer::negation(integer_in(x)?)?)),
-        Numeric::Real => Ok(Value::Real(real::negation(real_in(x)?)?)),
+        Numeric::Integer => Ok(Value::Integer(exact::negation(integer_in(x)?)?)),
+        Numeric::Real => Ok(Value::Real(rounded::negation(real_in(x)?)?)),
     }
 }
 
@@ -133,14 +134,14 @@ fn incremented(ordinal: Ordinal, q: i32, x: Value) -> Result<Value, Stop>
     match ordinal {
         Ordinal::Address => {
             let address = address_in(x)?;
-            let place = integer::sum(address.0, q)?;
+            let place = exact::sum(address.0, q)?;
             Ok(Value::Address(StorePlace(place)))
         }
         Ordinal::Character => {
             let number = i128::from(character_in(x)?) + i128::from(q);
-            Ok(Value::Character(integer::character(number)?))
+            Ok(Value::Character(exact::character(number)?))
         }
-        Ordinal::Integer => Ok(Value::Integer(integer::sum(integer_in(x)?, q)?)),
+        Ordinal::Integer => Ok(Value::Integer(exact::sum(integer_in(x)?, q)?)),
     }
 }
 
@@ -150,14 +151,14 @@ fn decremented(ordinal: Ordinal, q: i32, x: Value) -> Result<Value, Stop>
     match ordinal {
         Ordinal::Address => {
             let address = address_in(x)?;
-            let place = integer::difference(address.0, q)?;
+            let place = exact::difference(address.0, q)?;
             Ok(Value::Address(StorePlace(place)))
         }
         Ordinal::Character => {
             let number = i128::from(character_in(x)?) - i128::from(q);
-            Ok(Value::Character(integer::character(number)?))
+            Ok(Value::Character(exact::character(number)?))
         }
-        Ordinal::Integer => Ok(Value::Integer(integer::difference(integer_in(x)?, q)?)),
+        Ordinal::Integer => Ok(Value::Integer(exact::difference(integer_in(x)?, q)?)),
     }
 }
 
@@ -165,12 +166,12 @@ fn converted(how: Conversion, x: Value) -> Result<Value, Stop>
     ensures { λ r. ⌜ r ≡ conversion how x ⌝ }
 {
     match how {
-        Conversion::IntegerToReal => Ok(Value::Real(real::real_from_integer(integer_in(x)?))),
-        Conversion::RealToInteger => Ok(Value::Integer(real::whole_part(real_in(x)?)?)),
+        Conversion::IntegerToReal => Ok(Value::Real(real_from_integer(integer_in(x)?))),
+        Conversion::RealToInteger => Ok(Value::Integer(rounded::whole_part(real_in(x)?)?)),
         Conversion::CharacterToInteger => Ok(Value::Integer(i32::from(character_in(x)?))),
         Conversion::IntegerToCharacter => {
             let number = i128::from(integer_in(x)?);
-            Ok(Value::Character(integer::character(number)?))
+            Ok(Value::Character(exact::character(number)?))
         }
     }
 }

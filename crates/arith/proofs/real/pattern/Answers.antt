@@ -9,4 +9,4 @@ use Rattle.arith.proofs.real.pattern.Needs as need
 pub returns : need.returns
 returns c =
     let held : fits binary64 (c .args .x) ≡ true = search needs in
-    record { value = search needs; back = λ h. ap (λ n. of-pattern n) (c .f64-to-bits-with-nan .ensures) ∙ real-back (c .args .x) held h }
+    record { value = c .to-bits .ensures; back = λ h. ap (λ n. of-pattern n) (c .to-bits .ensures) ∙ real-back (c .args .x) held h }

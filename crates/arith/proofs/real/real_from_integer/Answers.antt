@@ -7,7 +7,7 @@ use Rattle.arith.proofs.real.real_from_integer.Needs as need
 
 pub returns : need.returns
 returns c =
-    let value : c .from .result ≡ of-integer (c .args .n) = search needs in
+    let value : c .from-integer .result ≡ of-integer (c .args .n) = search needs in
     record {
       value = value;
       number = ap finite value ∙ integer-finite (c .args .n) (c .fits .n);

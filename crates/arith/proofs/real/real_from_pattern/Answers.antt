@@ -1,10 +1,10 @@
 use borrow.Author.Needs.{needs}
-use mathlib.Core.Path.{sym}
-use Rattle.arith.proofs.Patterns.{bits-back}
+use mathlib.Core.Path.{_≡_, sym, _∙_}
+use Rattle.arith.specs.Reals.{of-pattern}
+use Rattle.arith.proofs.Patterns.{bits-back, kept-part}
 use Rattle.arith.proofs.real.real_from_pattern.Needs as need
 
-pub returns-then-is-finite : need.returns-then-is-finite
-returns-then-is-finite c = record {
-  value = search needs;
-  back = λ x e. bits-back (c .args .bits) x _ (c .fits .bits .fits) (c .f64-from-bits-with-nan-x .ensures) (sym (c .if-is-finite .ensures tt .value)) e;
-}
+pub returns : need.returns
+returns c =
+    let value : c .ok .result ≡ of-pattern (c .args .bits) = search (needs, kept-part) in
+    record { value = value; back = λ x e. bits-back (c .args .bits) x (c .fits .bits .fits) (sym value ∙ e) }

@@ -2,7 +2,7 @@ use mathlib.Core.Path.{_≡_, sym, subst, _∙_}
 use mir.Syntax.{w128}
 use mir.Val.{SFits}
 use Rattle.arith.proofs.Ranges.{reach-fits, reach-is, reach-held}
-use Rattle.arith.proofs.integer.indexed.Needs as need
+use Rattle.arith.proofs.exact.indexed.Needs as need
 
 pub add-from : need.add-from
 add-from c =

@@ -1,6 +1,6 @@
 use borrow.Author.Needs.{needs}
 use Rattle.arith.proofs.Truncating.{capped}
-use Rattle.arith.proofs.real.whole_part.Needs as need
+use Rattle.arith.proofs.rounded.whole_part.Needs as need
 
 pub returns : need.returns
 returns c = search (needs, capped)

@@ -5,7 +5,7 @@ use mir.Syntax.{w128}
 use mir.Val.{SFits}
 use Rattle.std.proofs.shelf.Signed.{toZ-ofZ}
 use Rattle.arith.proofs.Ranges.{quotient-held, no-quotient}
-use Rattle.arith.proofs.integer.ratio.Needs as need
+use Rattle.arith.proofs.exact.ratio.Needs as need
 
 pub returns-in-Some : need.returns-in-Some
 returns-in-Some c =
