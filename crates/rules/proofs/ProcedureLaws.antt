@@ -1,25 +1,23 @@
 -- The check of the rules of tables finds a fault exactly where one is broken, and names the lowest procedure.
-use mathlib.Core.Path.{_≡_, refl, sym, ap, subst, _∙_}
+use mathlib.Core.Path.{_≡_, refl, sym, ap, _∙_}
 use mathlib.Core.Bool.{Bool, true, false, cond, _&&_}
 use mathlib.Core.Logic.{_⊎_, inl, inr}
-use Prim.Native.Nat.{ℕ, zero, suc, _-_, _≤_, _<_}
+use Prim.Native.Nat.{ℕ, zero, suc, _-_, _<_}
 use native.Mathlib.Omega.{arith}
-use lib.Dec.{eqb, leb, ltb}
-use lib.ListN.{length}
+use lib.Dec.{ltb}
 use Rattle.std.specs.Options.{mapped}
 use Rattle.std.specs.Orderings.{Decides}
-use Rattle.std.proofs.shelf.Tests.{false≢true, ne-eqb}
+use Rattle.std.proofs.shelf.Tests.{ne-eqb}
 use Rattle.std.proofs.shelf.Ways.{decides-eqb, decides-ltb, decides-and, decides-like, decides-at, not-from-decides}
 use Rattle.std.specs.declared.option.Option.{Option}
 use Rattle.std.specs.declared.option.Option.the-variants.{Some, None}
-use Rattle.std.specs.declared.result.Result.the-variants.{Err}
 use Rattle.sheet.specs.declared.procedure.Procedure.{Procedure}
 use Rattle.sheet.specs.Tables.{Contents}
 use Rattle.rules.specs.declared.fault.TableFault.{TableFault}
 use Rattle.rules.specs.declared.fault.TableFault.the-variants.{IllFormed}
-use Rattle.rules.specs.Faults.{lowest, passed}
+use Rattle.rules.specs.Faults.{lowest}
 use Rattle.rules.specs.Lookups.{procedure-at, ancestor}
-use Rattle.rules.specs.Procedures.{main-ok, form-ok, depth-ok, sizes-ok, start-of, cells-ok, procedure-ok, counts-ok, table-fault}
+use Rattle.rules.specs.Procedures.{main-ok, form-ok, procedure-ok, counts-ok, table-fault}
 use Rattle.rules.specs.ProcedureLaws.{Counts-rule, Procedure-rule, Table-rule, Table-is-checked, Table-names}
 use Rattle.rules.specs.Throughout.{Breaks-first}
 use Rattle.rules.proofs.Decided.{decides-leb, decides-none, none-fails, all-hold, first-fails}
@@ -84,14 +82,6 @@ unmapped-none (Some n) F e = absurd (let z : _≡_ {A = ℕ} 0 1 = cc in omega a
 
 abbrev found : Contents → Option TableFault
 found T = mapped IllFormed (lowest (procedure-ok T) 0 (T .procedures))
-
--- the answer of the check, once the counts are right
-pub answered : (T : Contents) (o : Option ℕ) → true ≡ counts-ok T → o ≡ lowest (procedure-ok T) 0 (T .procedures)
-    → passed (mapped IllFormed o) ≡ passed (table-fault T)
-answered T o c e = ap (λ w. passed (mapped IllFormed w)) e ∙ ap (λ b. passed (cond b (found T) (Some (IllFormed 0)))) c
-
-pub miscounted : (T : Contents) → false ≡ counts-ok T → Err (IllFormed 0) ≡ passed (table-fault T)
-miscounted T c = ap (λ b. passed (cond b (found T) (Some (IllFormed 0)))) c
 
 pub table-is-checked : Table-is-checked
 table-is-checked T = (see (counts-ok T) refl, back)

@@ -22,7 +22,6 @@ use Rattle.rules.specs.declared.effects.Takes.{Takes}
 use Rattle.rules.specs.declared.effects.Takes.the-variants.{Kinds, Parameters, Call}
 use Rattle.rules.specs.declared.effects.Gives.{Gives}
 use Rattle.rules.specs.declared.effects.Gives.the-variants.{Nothing, One, Two, Mark}
-use Rattle.rules.specs.declared.effects.Way.{Way}
 use Rattle.rules.specs.declared.effects.Way.the-variants.{Halt, Next, Jump, Fork}
 use Rattle.rules.specs.Lookups.{procedure-at, owner, natural}
 

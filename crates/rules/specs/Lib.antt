@@ -1,6 +1,8 @@
+pub mod EffectLaws
 pub mod Effects
 pub mod Faults
 pub mod Letters
+pub mod LookupLaws
 pub mod Lookups
 pub mod OperandLaws
 pub mod Operands

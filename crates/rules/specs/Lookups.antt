@@ -2,8 +2,10 @@
 --   contents-of: what the three lent lists of a table hold
 --   procedure-at: procedure n, an empty one past the end of the list
 --   ancestor: the j-th ancestor of procedure n; the 0th is itself, the next its parent, and none lies above procedure 0
---   owner: the procedure that instruction n lies in, the last whose first instruction is not above n
+--   begun: how many procedures, from the first on, have a first instruction not above n
+--   owner: the procedure that instruction n lies in, the last of these
 --   index: an operand as a number from 0 on, if it is one
+--   natural: the same, with a negative operand as 0
 --   enters: whether a mnemonic of this rule is ent
 --   room-at: how many cells of stack the ent of the procedure of instruction n allows, 0 where it has none
 use mathlib.Core.Bool.{Bool, true, false, cond}
@@ -39,13 +41,13 @@ ancestor T zero n = Some n
 ancestor T (suc j) zero = None
 ancestor T (suc j) (suc n) = ancestor T j (procedure-at T (suc n) .parent)
 
--- the list holds the procedures from number i on
-abbrev pub owner-from : ℕ → List Procedure → ℕ → ℕ
-owner-from i [] n = i - 1
-owner-from i (P ∷ Ps) n = cond (leb (P .first) n) (owner-from (i + 1) Ps n) (i - 1)
+-- i procedures come before the list
+abbrev pub begun : ℕ → List Procedure → ℕ → ℕ
+begun i [] n = i
+begun i (P ∷ Ps) n = cond (leb (P .first) n) (begun (i + 1) Ps n) i
 
 abbrev pub owner : Contents → ℕ → ℕ
-owner T n = owner-from 0 (T .procedures) n
+owner T n = begun 0 (T .procedures) n - 1
 
 abbrev pub index : ℤ → Option ℕ
 index (pos n) = Some n

@@ -1,6 +1,7 @@
 ghost use mathlib.Core.Path.{_≡_};
 ghost use Rattle.rules.specs.Lookups.{contents-of};
-ghost use Rattle.rules.specs.Effects.{one, two, next as goes-on, jumps, forks, halts, given, calls, effect-of};
+ghost use Rattle.rules.specs.Effects.{one, two, next as goes-on, calls, effect-by, effect-of};
+ghost use Rattle.rules.specs.EffectLaws.{Effects-are-sound};
 use crate::lookup::natural;
 use crate::lookup::owner;
 use crate::lookup::procedure_at;
@@ -77,14 +78,19 @@ fn call(procedure: Procedure) -> Effect
     goes_on(Takes::Call(procedure), gives)
 }
 
-// What instruction n, which is x, takes and gives, and where it goes on.
-pub fn effect_of(table: Table<'_>, n: usize, x: Instruction) -> Effect
-    ensures { λ r. ⌜ r ≡ effect-of (contents-of (table .entry)) n x ⌝ }
+// The effect of a mnemonic as instruction n, with letters t and t2 and operands p and q.
+fn by_mnemonic(
+    table: Table<'_>,
+    n: usize,
+    t: Kind,
+    t2: Kind,
+    p: usize,
+    q: usize,
+    mnemonic: Mnemonic,
+) -> Effect
+    ensures { λ r. ⌜ r ≡ effect-by (contents-of (table .entry)) n t t2 p q mnemonic ⌝ }
 {
-    let t = x.t.unwrap_or(Kind::Address);
-    let t2 = x.t2.unwrap_or(Kind::Address);
-    let q = natural(x.q);
-    match x.mnemonic {
+    match mnemonic {
         Mnemonic::Add | Mnemonic::Sub | Mnemonic::Mul | Mnemonic::Div => goes_on(
             two(t, t),
             Gives::One(t),
@@ -123,7 +129,7 @@ pub fn effect_of(table: Table<'_>, n: usize, x: Instruction) -> Effect
             way: Way::Fork(q),
         },
         Mnemonic::Conv => goes_on(one(t), Gives::One(t2)),
-        Mnemonic::Mst => goes_on(NONE, Gives::Mark(natural(x.p))),
+        Mnemonic::Mst => goes_on(NONE, Gives::Mark(p)),
         Mnemonic::Cup => call(procedure_at(table, owner(table, q))),
         Mnemonic::Ent => goes_on(
             Takes::Parameters(procedure_at(table, owner(table, n))),
@@ -135,4 +141,14 @@ pub fn effect_of(table: Table<'_>, n: usize, x: Instruction) -> Effect
             way: Way::Halt,
         },
     }
+}
+
+// What instruction n, which is x, takes and gives, and where it goes on.
+pub fn effect_of(table: Table<'_>, n: usize, x: Instruction) -> Effect
+    ensures value { λ r. ⌜ r ≡ effect-of (contents-of (table .entry)) n x ⌝ }
+    ensures law { λ _. ⌜ Effects-are-sound ⌝ }
+{
+    let t = x.t.unwrap_or(Kind::Address);
+    let t2 = x.t2.unwrap_or(Kind::Address);
+    by_mnemonic(table, n, t, t2, natural(x.p), natural(x.q), x.mnemonic)
 }

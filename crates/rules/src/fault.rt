@@ -1,5 +1,5 @@
 ghost use mathlib.Core.Path.{_≡_};
-ghost use Rattle.rules.specs.Faults.{fault-number, fault-place};
+ghost use Rattle.rules.specs.Faults.{fault-number, fault-place, passed};
 
 // Why a table is refused.
 #[derive(Clone, Copy, PartialEq, Eq, Debug, Drop)]
@@ -44,5 +44,15 @@ impl TableFault {
             | TableFault::RowTooHigh(n) => n,
             TableFault::TooFewPlaces => 0,
         }
+    }
+}
+
+// The answer of a check that finds this fault, or none.
+pub(crate) fn passed(fault: Option<TableFault>) -> Result<(), TableFault>
+    ensures { λ r. ⌜ r ≡ passed fault ⌝ }
+{
+    match fault {
+        None => Ok(()),
+        Some(fault) => Err(fault),
     }
 }

@@ -1,7 +1,8 @@
 // Finding the parts of a table. Every function answers for every number, so that no caller has to keep a bound.
 ghost use mathlib.Core.Path.{_≡_};
 ghost use Rattle.std.specs.Finite.{nth};
-ghost use Rattle.rules.specs.Lookups.{contents-of, procedure-at, ancestor, owner, index, natural, enters, room-of, room-at};
+ghost use Rattle.rules.specs.Lookups.{contents-of, procedure-at, ancestor, begun, owner, index, natural, enters, room-of, room-at};
+ghost use Rattle.rules.specs.LookupLaws.{Rooms-are-small};
 use sheet::instruction::Instruction;
 use sheet::procedure::Procedure;
 use sheet::shape::Rule;
@@ -43,16 +44,23 @@ pub fn ancestor(table: Table<'_>, j: usize, n: usize) -> Option<usize>
     Some(a)
 }
 
+// How many procedures, from the first on, begin at or below instruction n.
+fn begun(table: Table<'_>, n: usize) -> usize
+    ensures { λ r. ⌜ r ≡ begun 0 (now (table .entry .procedures)) n ⌝ }
+{
+    for (i, procedure) in table.procedures.iter().enumerate() {
+        if procedure.first as usize > n {
+            return i;
+        }
+    }
+    table.procedures.len()
+}
+
 // The procedure that instruction n lies in.
 pub fn owner(table: Table<'_>, n: usize) -> usize
     ensures { λ r. ⌜ r ≡ owner (contents-of (table .entry)) n ⌝ }
 {
-    for (i, procedure) in table.procedures.iter().enumerate() {
-        if procedure.first as usize > n {
-            return i.saturating_sub(1);
-        }
-    }
-    table.procedures.len().saturating_sub(1)
+    begun(table, n).saturating_sub(1)
 }
 
 // An operand as a number from 0 on, if it is one.
@@ -107,7 +115,8 @@ fn room_of(instruction: Option<Instruction>) -> usize
 
 // How many cells of stack the ent of the procedure of instruction n allows.
 pub fn room_at(table: Table<'_>, n: usize) -> usize
-    ensures { λ r. ⌜ r ≡ room-at (contents-of (table .entry)) n ⌝ }
+    ensures value { λ r. ⌜ r ≡ room-at (contents-of (table .entry)) n ⌝ }
+    ensures law { λ _. ⌜ Rooms-are-small ⌝ }
 {
     room_of(instruction_at(table, procedure_at(table, owner(table, n)).first as usize))
 }

@@ -6,8 +6,9 @@ ghost use Rattle.std.specs.Finite.{nth};
 ghost use Rattle.rules.specs.Lookups.{contents-of};
 ghost use Rattle.rules.specs.Operands.{holds, is-zero, unused-ok, is-cell, kind-at, constant-ok, cell-ok, variable-ok, local-ok, address-ok, label-ok, call-ok, enter-ok, rule-ok, ent-ok, instruction-ok, operand-fault};
 ghost use Rattle.rules.specs.OperandLaws.{Instruction-is-checked, Operands-are-checked, Operands-name};
-ghost use Rattle.rules.specs.Faults.{passed};
+ghost use Rattle.rules.specs.Faults.{lowest, passed};
 use crate::fault::TableFault;
+use crate::fault::passed;
 use crate::letters::letters_ok;
 use crate::letters::same_letter;
 use crate::lookup::ancestor;
@@ -213,6 +214,27 @@ fn instruction_ok(table: Table<'_>, n: usize, x: Instruction) -> bool
         && rule_ok(table, o, shape.rule, x.t, index(x.p), index(x.q))
 }
 
+// The lowest instruction that breaks a rule.
+fn lowest_not_allowed(table: Table<'_>) -> Option<usize>
+    ensures { λ r. ⌜ r ≡ lowest (instruction-ok (contents-of (table .entry))) 0 (now (table .entry .code)) ⌝ }
+{
+    for (n, x) in table.code.iter().enumerate() {
+        if !instruction_ok(table, n, *x) {
+            return Some(n);
+        }
+    }
+    None
+}
+
+fn operand_fault(table: Table<'_>) -> Option<TableFault>
+    ensures { λ r. ⌜ r ≡ operand-fault (contents-of (table .entry)) ⌝ }
+{
+    match lowest_not_allowed(table) {
+        None => None,
+        Some(n) => Some(TableFault::NotAllowed(n)),
+    }
+}
+
 // Refuses a table with a letter, an operand or an ent that is not allowed.
 pub fn check_operands(table: Table<'_>) -> Result<(), TableFault>
     ensures value { λ r. ⌜ r ≡ passed (operand-fault (contents-of (table .entry))) ⌝ }
@@ -220,10 +242,5 @@ pub fn check_operands(table: Table<'_>) -> Result<(), TableFault>
     ensures law { λ _. ⌜ Operands-are-checked ⌝ }
     ensures names { λ _. ⌜ Operands-name ⌝ }
 {
-    for (n, x) in table.code.iter().enumerate() {
-        if !instruction_ok(table, n, *x) {
-            return Err(TableFault::NotAllowed(n));
-        }
-    }
-    Ok(())
+    passed(operand_fault(table))
 }

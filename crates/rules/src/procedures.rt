@@ -3,8 +3,10 @@ ghost use mathlib.Core.Path.{_≡_};
 ghost use Rattle.rules.specs.Lookups.{contents-of};
 ghost use Rattle.rules.specs.Procedures.{main-ok, form-ok, depth-ok, sizes-ok, end-of, start-of, cells-ok, procedure-ok, counts-ok, table-fault};
 ghost use Rattle.rules.specs.ProcedureLaws.{Table-is-checked, Table-names};
-ghost use Rattle.rules.specs.Faults.{passed};
+ghost use Rattle.rules.specs.Faults.{lowest, passed};
+ghost use Rattle.rules.specs.LookupLaws.{Owners-begin-last};
 use crate::fault::TableFault;
+use crate::fault::passed;
 use crate::lookup::ancestor;
 use crate::lookup::procedure_at;
 use sheet::procedure::Procedure;
@@ -95,19 +97,36 @@ fn counts_ok(table: Table<'_>) -> bool
     (1 <= code && code <= MOST_CODE) && (1 <= procedures && procedures <= MOST_PROCEDURES)
 }
 
+// The lowest procedure that breaks a rule.
+fn lowest_ill_formed(table: Table<'_>) -> Option<usize>
+    ensures { λ r. ⌜ r ≡ lowest (procedure-ok (contents-of (table .entry))) 0 (now (table .entry .procedures)) ⌝ }
+{
+    for (n, procedure) in table.procedures.iter().enumerate() {
+        if !procedure_ok(table, n, *procedure) {
+            return Some(n);
+        }
+    }
+    None
+}
+
+fn table_fault(table: Table<'_>) -> Option<TableFault>
+    ensures { λ r. ⌜ r ≡ table-fault (contents-of (table .entry)) ⌝ }
+{
+    if !counts_ok(table) {
+        return Some(TableFault::IllFormed(0));
+    }
+    match lowest_ill_formed(table) {
+        None => None,
+        Some(n) => Some(TableFault::IllFormed(n)),
+    }
+}
+
 // Refuses a table that breaks one of the rules of tables.
 pub fn check_table(table: Table<'_>) -> Result<(), TableFault>
     ensures value { λ r. ⌜ r ≡ passed (table-fault (contents-of (table .entry))) ⌝ }
     ensures law { λ _. ⌜ Table-is-checked ⌝ }
     ensures names { λ _. ⌜ Table-names ⌝ }
+    ensures owners { λ _. ⌜ Owners-begin-last ⌝ }
 {
-    if !counts_ok(table) {
-        return Err(TableFault::IllFormed(0));
-    }
-    for (n, procedure) in table.procedures.iter().enumerate() {
-        if !procedure_ok(table, n, *procedure) {
-            return Err(TableFault::IllFormed(n));
-        }
-    }
-    Ok(())
+    passed(table_fault(table))
 }

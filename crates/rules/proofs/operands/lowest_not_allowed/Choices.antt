@@ -3,7 +3,7 @@ use lib.ListN.{drop}
 use Rattle.rules.specs.Faults.{lowest}
 use Rattle.rules.specs.Lookups.{contents-of}
 use Rattle.rules.specs.Operands.{instruction-ok}
-use Rattle.rules.proofs.operands.check_operands.Given as given
+use Rattle.rules.proofs.operands.lowest_not_allowed.Given as given
 
 abbrev pub Inv-loop-n : given.InvT-loop-n
 Inv-loop-n l =

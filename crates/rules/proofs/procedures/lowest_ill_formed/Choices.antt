@@ -3,7 +3,7 @@ use lib.ListN.{drop}
 use Rattle.rules.specs.Faults.{lowest}
 use Rattle.rules.specs.Lookups.{contents-of}
 use Rattle.rules.specs.Procedures.{procedure-ok}
-use Rattle.rules.proofs.procedures.check_table.Given as given
+use Rattle.rules.proofs.procedures.lowest_ill_formed.Given as given
 
 abbrev pub Inv-loop-n : given.InvT-loop-n
 Inv-loop-n l =
