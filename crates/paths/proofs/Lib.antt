@@ -1,0 +1,12 @@
+pub mod Lists
+pub mod Works
+pub mod Judging
+pub mod Counts
+pub mod Entering
+pub mod Covers
+pub mod Exact
+pub mod Greatest
+pub mod Ready
+pub mod Loops
+pub mod Admitting
+pub mod Passes

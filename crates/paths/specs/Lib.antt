@@ -1,0 +1,11 @@
+pub mod Lists
+pub mod Flows
+pub mod Paths
+pub mod Rows
+pub mod Judging
+pub mod Invariants
+pub mod Exact
+pub mod Greatest
+pub mod Loops
+pub mod Admitting
+pub mod Admitted
