@@ -1,12 +1,20 @@
 -- What one step at the top does to the list held. Assumes nothing.
 use mathlib.Core.Path.{_≡_, _∙_, subst, sym, ap, refl}
+use mathlib.Core.Bool.{cond}
 use mathlib.Core.List.{List, [], _∷_, _++_, append-assoc, reverse}
 use Prim.Native.Nat.{ℕ, _+_, _-_, _<_, _≤_, min}
+use native.Mathlib.Decide.{decLt}
 use native.Mathlib.Omega.{arith}
+use lib.Dec.{ltb}
 use lib.ListN.{length, getD, take, drop, set, replicate}
 use Rattle.std.specs.Runs.{nth}
-use Rattle.std.specs.declared.option.Option.the-variants.{Some, None}
-use Rattle.std.proofs.shelf.Lists.{take-more, take-more-set, drop-more, set-append-right, length-replicate, replicate-more, reverse-append, length-reverse, length-take-le, nil-from-length}
+use Rattle.std.specs.Results.{Cases}
+use Rattle.std.specs.declared.option.Option.the-variants.{None}
+use Rattle.std.specs.declared.result.Result.{Result}
+use Rattle.std.specs.declared.result.Result.the-variants.{Ok, Err}
+use Rattle.std.proofs.shelf.Lists.{take-more, take-more-set, drop-more, set-append-right, length-replicate, replicate-more, reverse-append, length-reverse, length-take-le, nil-from-length, set-past}
+use Rattle.std.proofs.shelf.Tests.{cond-true, cond-false, lt-ltb, le-ltb}
+use Rattle.pile.specs.declared.Full.{Full}
 use Rattle.pile.specs.declared.Pile.{Pile}
 use Rattle.pile.specs.Piles.{held, bottom-first, places-of, depth, room, blanked}
 
@@ -33,7 +41,6 @@ length-bottom-first p = length-take-le (depth p) (places-of p) (p .ok)
 pub depth-in-room : {X : Type 0} (p : Pile X) → depth p ≤ room p
 depth-in-room p = p .ok
 
--- nothing is held at depth 0, and at no other
 pub nothing-held : {X : Type 0} (p : Pile X) → depth p ≡ 0 → held p ≡ []
 nothing-held p e = nil-from-length (held p) (length-held p ∙ e)
 
@@ -56,3 +63,24 @@ fill-more xs i x h =
 -- for callers that lend places enough
 pub blanked-whole : {X : Type 0} (n : ℕ) (x : X) (xs : List X) → n ≤ length xs → blanked n x xs ≡ replicate n x ++ drop n xs
 blanked-whole n x xs h = let z : min n (length xs) ≡ n = omega arith in ap (λ k. replicate k x ++ drop k xs) z
+
+-- what a pile of depth n answers where m places are lent
+abbrev Answers : ℕ → ℕ → Result (Unit {0}) Full
+Answers n m = cond (ltb n m) (Ok tt) (Err (record {}))
+
+-- for callers that know of room: what a push comes to where it is taken
+pub in-room : (n m : ℕ) (r : Result (Unit {0}) Full) (P : Unit {0} → Type 0) (Q : Full → Type 0) → n < m → r ≡ Answers n m → Cases r P Q → P tt
+in-room n m r P Q h e c =
+    let a : Answers n m ≡ Ok tt = cond-true _ _ _ (lt-ltb n m h) in
+    subst (λ (y : Result (Unit {0}) Full). Cases y P Q) (e ∙ a) c
+
+-- taken or not, the places are as if the element had been written above the top
+pub places-after-push : {X : Type 0} (xs ys : List X) (n : ℕ) (x : X) (r : Result (Unit {0}) Full) → r ≡ Answers n (length xs)
+    → Cases r (λ _. ys ≡ set xs n x) (λ _. ys ≡ xs) → ys ≡ set xs n x
+places-after-push xs ys n x r e c = see (decLt n (length xs))
+  where
+    see : Dec (n < length xs) → ys ≡ set xs n x
+    see (yes l) = in-room n (length xs) r (λ _. ys ≡ set xs n x) (λ _. ys ≡ xs) l e c
+    see (no k) =
+        let a : Answers n (length xs) ≡ Err (record {}) = cond-false _ _ _ (le-ltb n (length xs) (omega arith)) in
+        subst (λ (y : Result (Unit {0}) Full). Cases y (λ _. ys ≡ set xs n x) (λ _. ys ≡ xs)) (e ∙ a) c ∙ sym (set-past xs n x (omega arith))
