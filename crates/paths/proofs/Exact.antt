@@ -15,7 +15,7 @@ use Rattle.paths.specs.Judging.{Progress, going, refused, judge}
 use Rattle.paths.specs.Invariants.{Closed, Keeps}
 use Rattle.paths.specs.Exact.{agree, Tells, strict, Accepts, Exact, Judge-is-exact}
 use Rattle.paths.proofs.Lists.{all-in, all-of}
-use Rattle.paths.proofs.Judging.{judge-post}
+use Rattle.paths.proofs.Judging.{judge-keeps}
 use Rattle.paths.proofs.Counts.{counts-as, counts-rows}
 use Rattle.paths.proofs.Covers.{covers, keeps}
 use Rattle.paths.proofs.Entering.{judge-empties}
@@ -79,7 +79,7 @@ module _ {R F : Type 0} (same : R → R → Bool) (tells : Tells same) (n : ℕ)
     Ends = Keeps ρ (Path-to ρ)
 
     outcome : Ends (judge ρ)
-    outcome = judge-post ρ (strict-law ins) (Path-to ρ) strict-closed
+    outcome = judge-keeps ρ (strict-law ins) (Path-to ρ) strict-closed
 
     clean : (rows : Rows R) → Local ρ rows → Clean ρ
     clean rows loc = record {

@@ -13,7 +13,7 @@ use Rattle.paths.specs.Invariants.{Closed, Caused, Keeps}
 use Rattle.paths.specs.Exact.{Accepts}
 use Rattle.paths.specs.Greatest.{Solves}
 use Rattle.paths.proofs.Lists.{all-of}
-use Rattle.paths.proofs.Judging.{judge-post}
+use Rattle.paths.proofs.Judging.{judge-keeps}
 use Rattle.paths.proofs.Covers.{step-down, covers, keeps}
 use Rattle.paths.proofs.Counts.{counts-rows}
 use Rattle.paths.proofs.Entering.{judge-empties}
@@ -56,7 +56,7 @@ module _ {R F : Type 0} (ρ : Flow R F) (law : Lawful ρ) where
       Ends = Keeps ρ Over
 
       ends : Ends (judge ρ)
-      ends = judge-post ρ law Over over-closed
+      ends = judge-keeps ρ law Over over-closed
 
       accepted : (x : Progress R F) → judge ρ ≡ x → Ends x → Accepts ρ
       accepted (going rows work) e o = (rows, work, e)
@@ -74,7 +74,7 @@ module _ {R F : Type 0} (ρ : Flow R F) (law : Lawful ρ) where
     Leaves = Keeps ρ (λ i r. Unit {0})
 
     held : (rows : Rows R) (work : List ℕ) → judge ρ ≡ going rows work → Local ρ rows
-    held rows work e = subst Leaves e (judge-post ρ law (λ i r. Unit {0}) anything) .0
+    held rows work e = subst Leaves e (judge-keeps ρ law (λ i r. Unit {0}) anything) .0
 
     pub judge-solves : Solves ρ
     judge-solves = record {

@@ -264,10 +264,10 @@ module _ {R F : Type 0} (ρ : Flow R F) where
               (λ g. ⊎-elim (λ i. absurd i) (λ s. inr (s .0, s .1, all-map (Held ρ rows) (Held ρ rows₁) (s .0) (held-down rows rows₁ (x .0 .down)) (s .2))) (opn k q g))
               (x .0 .same k q f)
 
-      -- the engine's law: where it accepts, its rows hold locally and are brought by paths; where it refuses, the fault is there
-      pub judge-post : Cases (λ rows work. Local ρ rows × Sound-by rows) (Caused ρ B) (judge ρ)
+      -- where judging accepts, its rows hold locally and keep B; where it refuses, the fault is there
+      pub judge-keeps : Cases (λ rows work. Local ρ rows × Sound-by rows) (Caused ρ B) (judge ρ)
       unfolding judge
-      judge-post =
+      judge-keeps =
           post-map (λ rows work. Done empty rows × All (Held ρ rows) (ρ .entries)) (λ rows work. Local ρ rows × Sound-by rows) (Caused ρ B) (enter ρ (ρ .entries) empty)
           (enter-post (ρ .entries) empty wide (λ k q e. absurd (none-some q (row-at empty k) (row-at-replicate (ρ .size) k) e))
           (λ k q e. absurd (none-some q (row-at empty k) (row-at-replicate (ρ .size) k) e)) (law .inside .starts) (cl .begins))

@@ -10,7 +10,7 @@ use Rattle.paths.specs.Invariants.{Closed, Keeps}
 use Rattle.paths.specs.Admitting.{entry-at}
 use Rattle.paths.specs.Admitted.{Apart, Suits, Passes}
 use Rattle.paths.proofs.Lists.{all-map, all-of}
-use Rattle.paths.proofs.Judging.{judge-post}
+use Rattle.paths.proofs.Judging.{judge-keeps}
 use Rattle.paths.proofs.Admitting.{admit-exact}
 
 module _ {R F : Type 0} (ρ : Flow R F) (fit : ℕ → R → Option F) (law : Lawful ρ) (apart : Apart ρ) (suits : Suits ρ fit) where
@@ -29,5 +29,5 @@ module _ {R F : Type 0} (ρ : Flow R F) (fit : ℕ → R → Option F) (law : La
 
   pub judge-passes : Passes ρ fit
   judge-passes = λ rows work e. (
-      let x : Ends (going rows work) = subst Ends e (judge-post ρ law Fit-here closed) in
+      let x : Ends (going rows work) = subst Ends e (judge-keeps ρ law Fit-here closed) in
       admit-exact ρ fit (law .inside .starts) apart .accepts rows (x .0 .wide) .1 (x .0, λ i r n f. x .1 i r f n))
