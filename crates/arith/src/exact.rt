@@ -52,7 +52,7 @@ pub fn arithmetic(op: Arithmetic, x: i32, y: i32) -> Result<i32, Stop>
     }
 }
 
-// How far `i` elements of `q` cells reach past `a`, computed exactly.
+// The place `i` elements of `q` cells past `a`: the product alone may pass 32 bits.
 pub fn indexed(a: i32, i: i32, q: i32) -> Result<i32, Stop>
     ensures { λ r. ⌜ r ≡ integer-of (a +ℤ i *ℤ q) ⌝ }
 {
