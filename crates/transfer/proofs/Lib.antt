@@ -1,0 +1,4 @@
+pub mod Stacking
+pub mod Fitting
+pub mod Checking
+pub mod Laws
