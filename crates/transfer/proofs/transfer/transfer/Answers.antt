@@ -24,8 +24,8 @@ returns-in-rest c =
     let x = c .in-Some .x in
     let there : nth (T .code) n ≡ Some x = sym (c .instruction-at .ensures) ∙ c .in-Some .is in
     record {
-      value = λ ok v. c .hand-on .ensures .value (rooms T ok n) (ap (λ (e : Effect). fitting (e .gives)) (c .effect-of-effect .ensures) ∙ fits-the-stack T ok n x there)
-          ∙ goes-by T n (c .effect-of-effect .result) x (stack-of (c .args .row)) (c .effect-of-effect .ensures) there (c .in-rest .not-Halt);
+      value = λ ok v. c .hand-on .ensures .value (rooms T ok n) (ap (λ (e : Effect). fitting (e .gives)) (c .effect-of-effect .ensures .value) ∙ fits-the-stack T ok n x there)
+          ∙ goes-by T n (c .effect-of-effect .result) x (stack-of (c .args .row)) (c .effect-of-effect .ensures .value) there (c .in-rest .not-Halt);
       stray = λ e. absurd (false≢true (sym e ∙ sym (c .if-not-is-reached .ensures tt)));
       row = c .hand-on .ensures .row;
     }
