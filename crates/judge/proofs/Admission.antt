@@ -148,7 +148,7 @@ suits T c = record {
   lowered = λ n q s t a b e. agree-not-lower (same-stack q s) t e;
 }
 
-law : (T : Contents) → first-fault T ≡ None → Table-rule T → Lawful (stacks T)
+pub law : (T : Contents) → first-fault T ≡ None → Table-rule T → Lawful (stacks T)
 law T c t = strict-law same-stack stacks-tell (length (T .code)) (map (entry-of T) (T .procedures)) (step T) Differs (inside T c t)
 
 exact : (T : Contents) → first-fault T ≡ None → Table-rule T → Admits (stacks T) (fit T)

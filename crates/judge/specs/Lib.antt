@@ -4,3 +4,4 @@ pub mod Judgement
 pub mod Laws
 pub mod Admission
 pub mod AdmissionLaws
+pub mod Handing

@@ -3,6 +3,8 @@ ghost use Rattle.judge.specs.AdmissionLaws.{Admit-accepts-exactly-local-rows, 
 ghost use Rattle.judge.specs.Laws.{Judge-accepts-exactly-clean-tables, Judge-leaves-what-paths-bring, Judge-refuses-for-cause};
 
 pub mod flaw;
+mod follow;
+mod hand;
 
 // What judging means, in terms of paths.
 pub fn judgement_stands() -> u8
