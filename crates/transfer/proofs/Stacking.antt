@@ -1,7 +1,7 @@
 -- One entry more or less on a stack: what is held, what is left and what it takes. Assumes nothing.
 use mathlib.Core.Path.{_≡_, refl, sym, ap, _∙_}
 use mathlib.Core.Bool.{Bool, true, false, cond}
-use mathlib.Core.List.{List, [], _∷_, _++_, reverse}
+use mathlib.Core.List.{List, [], _∷_, _++_, map, reverse}
 use Prim.Native.Nat.{ℕ, zero, suc, _+_, _-_, _<_, _≤_, min}
 use native.Mathlib.Omega.{arith}
 use lib.ListN.{length, getD, take, drop}
@@ -38,6 +38,12 @@ pub one-more : {X : Type 0} (xs : List X) (i : ℕ) (x : X) → nth xs i ≡ Som
 one-more xs i x h =
     let p = nth-some xs i x h in
     ap reverse (take-more xs i x (p .0) ∙ ap (λ y. take i xs ++ y ∷ []) (p .1)) ∙ reverse-append (take i xs) (x ∷ [])
+
+-- a value of the kind at i
+pub value-there : (ts : List Kind) (i : ℕ) (d : Kind) → i < length ts → nth (map Value ts) i ≡ Some (Value (getD ts i d))
+value-there [] i d h = absurd (omega (arith, h))
+value-there (t ∷ ts) zero d h = refl
+value-there (t ∷ ts) (suc i) d h = value-there ts i d (omega (arith, h))
 
 -- kinds are taken one after another
 less-one : (t : Kind) (ts : List Kind) (s : Stack) → less-kinds (t ∷ ts) s ≡ and-then (less-kinds (t ∷ []) s) (less-kinds ts)

@@ -24,7 +24,7 @@ use sheet::procedure::Procedure;
 use sheet::table::Table;
 
 // Refused by a full pile alone.
-fn push(stack: &mut Pile<'_, Entry>, entry: Entry) -> Result<(), Breach>
+pub(crate) fn push(stack: &mut Pile<'_, Entry>, entry: Entry) -> Result<(), Breach>
     ensures name { λ _. ⌜ name (now (stack .exit) .places) ≡ name (now (stack .entry) .places) ⌝ }
     ensures room { λ _. ⌜ room (now (stack .exit)) ≡ room (now (stack .entry)) ⌝ }
     ensures value { λ r. ⌜ Cases r (λ _. held (now (stack .exit)) ≡ entry ∷ held (now (stack .entry))) (λ _. room (now (stack .entry)) ≤ depth (now (stack .entry))) ⌝ }
@@ -121,7 +121,7 @@ fn take_all(stack: &mut Pile<'_, Entry>, kinds: &[Kind]) -> Result<(), Breach>
 }
 
 // The parameters of a procedure, as far as the table has cells.
-fn parameters<'a>(table: Table<'a>, procedure: Procedure) -> &'a [Kind]
+pub(crate) fn parameters<'a>(table: Table<'a>, procedure: Procedure) -> &'a [Kind]
     ensures { λ r. ⌜ now r ≡ first (procedure .parameters) (drop (procedure .offset) (now (table .entry .cells))) ⌝ }
 {
     let from = procedure.offset.min(table.cells.len());
