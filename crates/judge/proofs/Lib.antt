@@ -4,3 +4,4 @@ pub mod Admission
 mod Handing
 mod Readying
 mod Following
+mod Entering

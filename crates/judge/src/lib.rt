@@ -3,6 +3,7 @@ ghost use Rattle.judge.specs.AdmissionLaws.{Admit-accepts-exactly-local-rows, 
 ghost use Rattle.judge.specs.Laws.{Judge-accepts-exactly-clean-tables, Judge-leaves-what-paths-bring, Judge-refuses-for-cause};
 
 pub mod flaw;
+mod enter;
 mod follow;
 mod hand;
 
