@@ -2,8 +2,8 @@
 ghost use Rattle.judge.specs.AdmissionLaws.{Admit-accepts-exactly-local-rows, Judge-leaves-rows-that-admit-accepts};
 ghost use Rattle.judge.specs.Laws.{Judge-accepts-exactly-clean-tables, Judge-leaves-what-paths-bring, Judge-refuses-for-cause};
 
-pub mod flaw;
 mod enter;
+pub mod flaw;
 mod follow;
 mod hand;
 
