@@ -1,4 +1,6 @@
 // Admitting a table with rows lent for it.
+#![tactic(auto)]
+
 ghost use Rattle.std.specs.Prelude.{◌≡◌, IfOk};
 ghost use Rattle.judge.specs.AdmissionLaws.{AdmitAcceptsExactlyLocalRows, JudgeLeavesRowsThatAdmitAccepts};
 ghost use Rattle.admit.specs.Admissions.{admission};

@@ -1,4 +1,6 @@
 // Every operation of the sheet that computes a value from one or two.
+#![tactic(auto)]
+
 pub mod division;
 mod exact;
 mod ieee;

@@ -3,6 +3,8 @@
 // made, where the line goes on with the counts of its procedures, data cells and instructions, and bytes to put last.
 // `values.txt` has a line for each text of values: its name, and the length of the list lent.
 // `listed.txt` names the texts to list.
+#![tactic(auto)]
+
 mod case;
 mod outcome;
 mod values;

@@ -1,4 +1,6 @@
 // The text of tables and of values, in fixed columns.
+#![tactic(auto)]
+
 pub mod fault;
 mod letters;
 pub mod line;

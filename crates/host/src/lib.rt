@@ -1,4 +1,6 @@
 // Where values come from and where they go.
+#![tactic(auto)]
+
 pub mod host;
 mod kinds;
 mod line;

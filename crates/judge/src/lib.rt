@@ -1,4 +1,6 @@
 // Judging tables on every path, and admitting rows.
+#![tactic(auto)]
+
 ghost use Rattle.judge.specs.AdmissionLaws.{AdmitAcceptsExactlyLocalRows, JudgeLeavesRowsThatAdmitAccepts};
 ghost use Rattle.judge.specs.Laws.{JudgeAcceptsExactlyCleanTables, JudgeLeavesWhatPathsBring, JudgeRefusesForCause};
 

@@ -1,4 +1,6 @@
 // Lists the table on standard input for people.
+#![tactic(auto)]
+
 use anyhow::anyhow;
 use lister::text::list_table;
 use std::env;

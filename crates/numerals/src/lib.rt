@@ -1,4 +1,6 @@
 // Numbers in fixed columns, and a text in lines.
+#![tactic(auto)]
+
 ghost use Rattle.numerals.specs.Laws.{WrittenNumbersReadBack, ReadNumbersWriteBack};
 
 pub mod lines;

@@ -1,4 +1,6 @@
 // Paths through a table of instructions, for any kind of row with a way of meeting: each function's contract is a law.
+#![tactic(auto)]
+
 ghost use Rattle.paths.specs.Exact.{JudgeIsExact};
 ghost use Rattle.paths.specs.Greatest.{JudgeFindsTheGreatestRows, JudgeKeepsInvariants};
 ghost use Rattle.paths.specs.Loops.{LoopsFollowTheJudgement};

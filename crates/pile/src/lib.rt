@@ -1,4 +1,6 @@
 // A stack over lent places, written once for every kind of element.
+#![tactic(auto)]
+
 mod ends;
 mod fill;
 mod looks;

@@ -1,4 +1,6 @@
 // What an instruction reads from the store.
+#![tactic(auto)]
+
 pub mod cells;
 pub mod kinds;
 pub mod links;

@@ -1,4 +1,6 @@
 // The sheet: kinds and values, mnemonics and their operand shapes, instructions, procedures and tables.
+#![tactic(auto)]
+
 pub mod instruction;
 pub mod kind;
 pub mod mnemonic;

@@ -1,4 +1,6 @@
 // The promises on runs of an admitted table: each function's contract is a law.
+#![tactic(auto)]
+
 ghost use Rattle.soundness.specs.Frames.{OpenFramesLeadToPlace0};
 ghost use Rattle.soundness.specs.SmallTables.{SmallTablesComeOut};
 ghost use Rattle.soundness.specs.Runs.{AdmittedRunsStayTyped, CallsLeaveWhatOneGoLeaves, EqualTotalsLeaveEqualStates};

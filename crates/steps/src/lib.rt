@@ -1,4 +1,6 @@
 // One step of the machine, and many.
+#![tactic(auto)]
+
 mod fetch;
 pub mod go;
 mod perform;

@@ -1,4 +1,6 @@
 // Cells, and stores of them.
+#![tactic(auto)]
+
 pub mod cell;
 mod clean;
 mod decode;

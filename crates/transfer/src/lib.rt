@@ -1,4 +1,6 @@
 // What one instruction does with the stack before it: the transfer function of the verifier.
+#![tactic(auto)]
+
 pub mod breach;
 pub mod entrance;
 mod stack;

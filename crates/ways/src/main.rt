@@ -1,5 +1,7 @@
 // Sets out a row of each yard over both stores and both hosts, with the calls of each run cut in another way, and prints what was
 // written, how the run ended and the registers: the same lines four times.
+#![tactic(auto)]
+
 mod drive;
 mod yard;
 
