@@ -9,12 +9,12 @@ use Rattle.admit.proofs.local.check_entry.Goals as goal
 pub returns-in-default : goal.returns-in-default
 returns-in-default c =
     no_row_so_long c.args.row (take c.args.procedure.parameters (drop c.args.procedure.offset c.args.table.cells.now)) c.args.i c.at.result
-    (sym c.entry-row.ensures ∙ c.in-default.is) c.at.ensures
+    (sym c.entry_row.ensures ∙ c.in-default.is) c.at.ensures
 
-pub must-be-requires : goal.must-be-requires
-must-be-requires c = (entry_is (contents_of c.args.table) c.args.procedure c.in-Some.parameters (sym c.entry-row.ensures ∙ c.in-Some.is)).0
+pub must_be-requires : goal.must_be-requires
+must_be-requires c = (entry_is (contents_of c.args.table) c.args.procedure c.in-Some.parameters (sym c.entry_row.ensures ∙ c.in-Some.is)).0
 
 pub returns : goal.returns
 returns c =
-    let q = entry_is (contents_of c.args.table) c.args.procedure c.in-Some.parameters (sym c.entry-row.ensures ∙ c.in-Some.is) in
-    c.must-be.ensures ∙ ap (must_be (meaning c.args.row) c.args.i) q.1
+    let q = entry_is (contents_of c.args.table) c.args.procedure c.in-Some.parameters (sym c.entry_row.ensures ∙ c.in-Some.is) in
+    c.must_be.ensures ∙ ap (must_be (meaning c.args.row) c.args.i) q.1

@@ -5,5 +5,5 @@ use Rattle.arith.proofs.division.quotient.Goals as goal
 
 pub returns : goal.returns
 returns c =
-    let value : c.toward-zero.result ≡ whole_quotient c.args.dividend c.args.divisor = search rules in
+    let value : c.toward_zero.result ≡ whole_quotient c.args.dividend c.args.divisor = search rules in
     record { value = value; law = λ q e. answer_divides c.args.dividend c.args.divisor q (sym value ∙ e) }

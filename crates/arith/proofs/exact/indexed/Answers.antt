@@ -3,8 +3,8 @@ use mir.Syntax.{w128}
 use Rattle.arith.proofs.Ranges.{reach_fits, reach_is, reach_held}
 use Rattle.arith.proofs.exact.indexed.Goals as goal
 
-pub overflow-add-from : goal.overflow-add-from
-overflow-add-from c =
+pub overflow_add-from : goal.overflow_add-from
+overflow_add-from c =
     subst
     (SFits w128)
     (sym (reach_is _ _ _ _ _ _ c.ranges.a c.ranges.i c.ranges.q c.from.ensures c.from-2.ensures c.from-3.ensures))

@@ -7,4 +7,4 @@ use Rattle.arith.proofs.real.pattern.Goals as goal
 pub returns : goal.returns
 returns c =
     let held : fits binary64 c.args.x ≡ true = search rules in
-    record { value = c.to-bits.ensures; back = λ h. ap (λ n. of_pattern n) c.to-bits.ensures ∙ real_back c.args.x held h }
+    record { value = c.to_bits.ensures; back = λ h. ap (λ n. of_pattern n) c.to_bits.ensures ∙ real_back c.args.x held h }

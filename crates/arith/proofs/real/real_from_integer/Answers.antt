@@ -6,7 +6,7 @@ use Rattle.arith.proofs.real.real_from_integer.Goals as goal
 
 pub returns : goal.returns
 returns c =
-    let value : c.from-integer.result ≡ of_integer c.args.n = search rules in
+    let value : c.from_integer.result ≡ of_integer c.args.n = search rules in
     record {
       value = value;
       number = ap float_is_finite value ∙ integer_finite c.args.n c.ranges.n;

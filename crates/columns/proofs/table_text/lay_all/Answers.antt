@@ -10,15 +10,15 @@ loop-rest-init c = (laid_none c.args.text.now c.args.procedures.now c.args.cells
 pub lay-requires : goal.lay-requires
 lay-requires c =
     let some : 0 < length c.loop-rest.rest.now = grind (arith, nat_tests) in
-    cells_fit c.loop-rest.rest.now c.split-line.result.0.now c.split-line.result.1.now _ _ _ _ _ _ _ _ (c.split-line.ensures.first some) c.loop-rest.invariant.0
+    cells_fit c.loop-rest.rest.now c.split_line.result.0.now c.split_line.result.1.now _ _ _ _ _ _ _ _ (c.split_line.ensures.first some) c.loop-rest.invariant.0
 
 pub loop-rest-preserved : goal.loop-rest-preserved
 loop-rest-preserved c =
     let some : 0 < length c.loop-rest.rest.now = grind (arith, nat_tests) in
-    let line : 0 < length c.split-line.result.0.now = c.split-line.ensures.some some in (
-      laid_more c.loop-rest.rest.now c.split-line.result.0.now c.split-line.result.1.now c.read-line-said.result (lines_of c.args.text.now) _ _ _ _ _ _ _ _ _ _ _
-          (c.split-line.ensures.first some) c.read-line-said.ensures c.after-counts.ensures c.lay.ensures.procedures c.lay.ensures.cells c.lay.ensures.code c.loop-rest.invariant.0,
-      still_short c.loop-rest.counts c.after-counts.result c.read-line-said.result _ _ _ _ c.after-counts.ensures line c.split-line.ensures.len c.loop-rest.invariant.1,
+    let line : 0 < length c.split_line.result.0.now = c.split_line.ensures.some some in (
+      laid_more c.loop-rest.rest.now c.split_line.result.0.now c.split_line.result.1.now c.read_line-said.result (lines_of c.args.text.now) _ _ _ _ _ _ _ _ _ _ _
+          (c.split_line.ensures.first some) c.read_line-said.ensures c.after-counts.ensures c.lay.ensures.procedures c.lay.ensures.cells c.lay.ensures.code c.loop-rest.invariant.0,
+      still_short c.loop-rest.counts c.after-counts.result c.read_line-said.result _ _ _ _ c.after-counts.ensures line c.split_line.ensures.len c.loop-rest.invariant.1,
     )
 
 pub returns : goal.returns

@@ -4,6 +4,6 @@ use Rattle.columns.proofs.value_line.value_line.Goals as goal
 
 pub returns : goal.returns
 returns c =
-    let k : length c.copy-from-slice.new.self ≡ 20 = search rules in
-    let e = one_column c.args.letter c.copy-from-slice.new.self k in
+    let k : length c.copy_from_slice.new.self ≡ 20 = search rules in
+    let e = one_column c.args.letter c.copy_from_slice.new.self k in
     cc

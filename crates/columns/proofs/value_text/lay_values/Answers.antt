@@ -10,10 +10,10 @@ loop-rest-init c = (laid_none (values_of c.args.text.now) c.args.values.now, ome
 pub loop-rest-preserved : goal.loop-rest-preserved
 loop-rest-preserved c =
     let some : 0 < length c.loop-rest.rest.now = grind (arith, nat_tests) in
-    let line : 0 < length c.split-line.result.0.now = c.split-line.ensures.some some in (
-      laid_more c.loop-rest.rest.now c.split-line.result.0.now c.split-line.result.1.now c.read-value.result (values_of c.args.text.now) _ _ _ _ _
-          (c.split-line.ensures.first some) c.read-value.ensures c.lay-value-at.ensures.value c.lay-value-at.ensures.after c.loop-rest.invariant.0,
-      still_short c.read-value.result c.loop-rest.at _ _ _ _ _ c.lay-value-at.ensures.value line c.split-line.ensures.len c.loop-rest.invariant.1,
+    let line : 0 < length c.split_line.result.0.now = c.split_line.ensures.some some in (
+      laid_more c.loop-rest.rest.now c.split_line.result.0.now c.split_line.result.1.now c.read_value.result (values_of c.args.text.now) _ _ _ _ _
+          (c.split_line.ensures.first some) c.read_value.ensures c.lay_value-at.ensures.value c.lay_value-at.ensures.after c.loop-rest.invariant.0,
+      still_short c.read_value.result c.loop-rest.at _ _ _ _ _ c.lay_value-at.ensures.value line c.split_line.ensures.len c.loop-rest.invariant.1,
     )
 
 pub returns : goal.returns

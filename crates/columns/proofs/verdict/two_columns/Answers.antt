@@ -4,11 +4,11 @@ use Rattle.columns.proofs.verdict.two_columns.Goals as goal
 
 pub returns : goal.returns
 returns c =
-    let k : length c.copy-from-slice.new.self ≡ 20 = search rules in
-    let e = two_columns 122 c.copy-from-slice.new.self c.copy-from-slice-2.new.self k in
+    let k : length c.copy_from_slice.new.self ≡ 20 = search rules in
+    let e = two_columns 122 c.copy_from_slice.new.self c.copy_from_slice-2.new.self k in
     cc
 
-pub slice-bounds-line-end-2 : goal.slice-bounds-line-end-2
-slice-bounds-line-end-2 c =
-    let k : length c.copy-from-slice.new.self ≡ 20 = search rules in
-    room_for_two 122 c.copy-from-slice.new.self k
+pub slice-bounds-line_end-2 : goal.slice-bounds-line_end-2
+slice-bounds-line_end-2 c =
+    let k : length c.copy_from_slice.new.self ≡ 20 = search rules in
+    room_for_two 122 c.copy_from_slice.new.self k

@@ -8,9 +8,9 @@ returns-then-done-output c =
     let out = c.args.output.now in
     let done = c.args.done in
     let room : done < length out / 22 = omega arith in
-    let k : length c.line-of.result ≡ 22 = search rules in
+    let k : length c.line_of.result ≡ 22 = search rules in
     record {
       value = sym (line_answers (length out) done room);
-      after = λ vs. ap (lines_mean vs (done + 1)) c.lay-line.ensures ∙ put_line vs out c.line-of.result done c.args.x room k c.line-of.ensures.back;
+      after = λ vs. ap (lines_mean vs (done + 1)) c.lay_line.ensures ∙ put_line vs out c.line_of.result done c.args.x room k c.line_of.ensures.back;
       within = omega arith;
     }

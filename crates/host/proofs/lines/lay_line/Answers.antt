@@ -7,4 +7,4 @@ returns c =
     let at = c.args.at in
     let out = c.args.output.now in
     let h : at ≤ at + 22 = omega arith in
-    ap (put_mid at (at + 22 - at) out) c.copy-from-slice.ensures.after ∙ ap (λ r. take at out ++ (c.args.line ++ r)) (Post-is at (at + 22) out h)
+    ap (put_mid at (at + 22 - at) out) c.copy_from_slice.ensures.after ∙ ap (λ r. take at out ++ (c.args.line ++ r)) (Post-is at (at + 22) out h)

@@ -8,12 +8,12 @@ returns-then-at-input c =
     let t = none_taken c.args.kind (drop c.args.at c.args.input.now) (drop_all c.args.at c.args.input.now (omega arith)) in
     record { value = t.0; rest = t.1; within = tt }
 
-pub returns-then-is-of : goal.returns-then-is-of
-returns-then-is-of c =
-    let t = one_taken c.args.kind _ _ _ (front c.args.input.now c.args.at _ (omega arith)) (sym c.is-of.ensures ∙ c.if-is-of.true) in
+pub returns-then-is_of : goal.returns-then-is_of
+returns-then-is_of c =
+    let t = one_taken c.args.kind _ _ _ (front c.args.input.now c.args.at _ (omega arith)) (sym c.is_of.ensures ∙ c.if-is_of.true) in
     record { value = t.0; rest = t.1; within = omega arith }
 
-pub returns-else-is-of : goal.returns-else-is-of
-returns-else-is-of c =
-    let t = other_kind c.args.kind _ _ _ (front c.args.input.now c.args.at _ (omega arith)) (sym c.is-of.ensures ∙ c.if-is-of.false) in
+pub returns-else-is_of : goal.returns-else-is_of
+returns-else-is_of c =
+    let t = other_kind c.args.kind _ _ _ (front c.args.input.now c.args.at _ (omega arith)) (sym c.is_of.ensures ∙ c.if-is_of.false) in
     record { value = t.0; rest = t.1; within = tt }

@@ -7,8 +7,8 @@ use Rattle.judge.specs.Handing.{meanings}
 use Rattle.judge.proofs.Calling.{comes_to}
 use Rattle.judge.proofs.call.follow.Goals as goal
 
-pub enter-all-requires : goal.enter-all-requires
-enter-all-requires c =
+pub enter_all-requires : goal.enter_all-requires
+enter_all-requires c =
     let w : length c.args.rows.now ≡ length c.args.table.code.now = ap length c.requires.blank ∙ length-replicate (length c.args.table.code.now) no_row in
     let p = ap length c.over-work.ensures.places in
     record {
@@ -23,7 +23,7 @@ returns c =
     let T = contents_of c.args.table in
     let n = length c.args.table.code.now in
     let w : length c.args.rows.now ≡ n = ap length c.requires.blank ∙ length-replicate n no_row in
-    let a = comes_to T c.args.rows.now c.requires.blank c.enter-all.result (meanings c.enter-all.new.rows) (held c.enter-all.new.work) c.enter-all.ensures.after in
-    let d : drop n (places_of c.enter-all.new.work) ≡ drop n c.args.places.now
-    = subst (λ (k : ℕ). drop k (places_of c.enter-all.new.work) ≡ drop k (places_of c.over-work.result)) w c.enter-all.ensures.rest ∙ ap (drop n) c.over-work.ensures.places in
+    let a = comes_to T c.args.rows.now c.requires.blank c.enter_all.result (meanings c.enter_all.new.rows) (held c.enter_all.new.work) c.enter_all.ensures.after in
+    let d : drop n (places_of c.enter_all.new.work) ≡ drop n c.args.places.now
+    = subst (λ (k : ℕ). drop k (places_of c.enter_all.new.work) ≡ drop k (places_of c.over-work.result)) w c.enter_all.ensures.rest ∙ ap (drop n) c.over-work.ensures.places in
     search rules

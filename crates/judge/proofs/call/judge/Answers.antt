@@ -29,10 +29,10 @@ returns c =
     let T = contents_of c.args.table in
     let e = c.in-ok-check.ensures in
     record {
-      value = c.judge-checked.ensures.value ∙ late_answer T (length c.args.rows.now) (length c.args.places.now) c.in-ok-check.field-0 e;
-      rows = c.judge-checked.ensures.rows ∙ late_rows T c.args.rows.now (length c.args.places.now) c.in-ok-check.field-0 e;
-      records = late_records T (length c.args.rows.now) (length c.args.places.now) (followed (judge (stacks T))) (length c.args.table.code.now) c.args.rows.now c.judge-checked.new.rows c.in-ok-check.field-0 e c.judge-checked.ensures.records;
-      places = c.judge-checked.ensures.places ∙ late_places T (length c.args.rows.now) c.args.places.now c.in-ok-check.field-0 e;
+      value = c.judge_checked.ensures.value ∙ late_answer T (length c.args.rows.now) (length c.args.places.now) c.in-ok-check.field-0 e;
+      rows = c.judge_checked.ensures.rows ∙ late_rows T c.args.rows.now (length c.args.places.now) c.in-ok-check.field-0 e;
+      records = late_records T (length c.args.rows.now) (length c.args.places.now) (followed (judge (stacks T))) (length c.args.table.code.now) c.args.rows.now c.judge_checked.new.rows c.in-ok-check.field-0 e c.judge_checked.ensures.records;
+      places = c.judge_checked.ensures.places ∙ late_places T (length c.args.rows.now) c.args.places.now c.in-ok-check.field-0 e;
       accepts = judge_accepts_exactly_clean_tables;
       leaves = judge_leaves_what_paths_bring;
       counts = judge_counts_what_paths_reach;

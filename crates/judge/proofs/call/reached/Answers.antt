@@ -10,17 +10,17 @@ use Rattle.judge.proofs.call.reached.Goals as goal
 pub loop-row-init : goal.loop-row-init
 loop-row-init c = (omega arith, omega arith)
 
-pub overflow-add-reached : goal.overflow-add-reached
-overflow-add-reached c = omega (arith, c.loop-row.invariant.1, c.loop-row-test.true, c.well-formed.0)
+pub overflow_add-reached : goal.overflow_add-reached
+overflow_add-reached c = omega (arith, c.loop-row.invariant.1, c.loop-row-test.true, c.well_formed.0)
 
 pub loop-row-preserved : goal.loop-row-preserved
-loop-row-preserved c = elim c.if-is-reached.branch [
+loop-row-preserved c = elim c.if-is_reached.branch [
   | then-is-reached w ↦ (
-    one_more c.args.rows.now c.loop-row.row-index (record { len = 0; bytes = [] }) c.loop-row-test.true c.loop-row.reached c.if-is-reached.reached (sym w.if-is-reached.ensures) w.reached-is ∙ c.loop-row.invariant.0,
+    one_more c.args.rows.now c.loop-row.row-index (record { len = 0; bytes = [] }) c.loop-row-test.true c.loop-row.reached c.if-is_reached.reached (sym w.if-is-reached.ensures) w.reached-is ∙ c.loop-row.invariant.0,
     omega (arith, w.reached-is, c.loop-row.invariant.1),
   )
   | else-is-reached w ↦ (
-    no_more c.args.rows.now c.loop-row.row-index (record { len = 0; bytes = [] }) c.loop-row-test.true c.loop-row.reached c.if-is-reached.reached (sym w.if-is-reached.ensures) w.reached-is ∙ c.loop-row.invariant.0,
+    no_more c.args.rows.now c.loop-row.row-index (record { len = 0; bytes = [] }) c.loop-row-test.true c.loop-row.reached c.if-is_reached.reached (sym w.if-is-reached.ensures) w.reached-is ∙ c.loop-row.invariant.0,
     omega (arith, w.reached-is, c.loop-row.invariant.1),
   )
 ]

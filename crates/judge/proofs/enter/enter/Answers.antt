@@ -16,7 +16,7 @@ use Rattle.judge.proofs.enter.enter.Goals as goal
 
 pub hand-requires : goal.hand-requires
 hand-requires c =
-    let q = entry_is (contents_of c.args.table) c.args.procedure c.in-Some.row (sym c.entry-row.ensures ∙ c.in-Some.is) in
+    let q = entry_is (contents_of c.args.table) c.args.procedure c.in-Some.row (sym c.entry_row.ensures ∙ c.in-Some.is) in
     let d : depth c.args.work.now ≡ 0 = sym (length_held c.args.work.now) ∙ ap length c.requires.none in
     record {
       inside = omega (arith, c.requires.wide, c.requires.inside);
@@ -39,12 +39,12 @@ settle-requires c =
     }
 
 pub returns-in-default : goal.returns-in-default
-returns-in-default c = absurd (entry_there (contents_of c.args.table) c.args.procedure c.requires.few (sym c.entry-row.ensures ∙ c.in-default.is))
+returns-in-default c = absurd (entry_there (contents_of c.args.table) c.args.procedure c.requires.few (sym c.entry_row.ensures ∙ c.in-default.is))
 
 pub returns-in-Err : goal.returns-in-Err
 returns-in-Err c =
     let p = c.in-Err.ensures in
-    let q = entry_is (contents_of c.args.table) c.args.procedure c.in-Some.row (sym c.entry-row.ensures ∙ c.in-Some.is) in
+    let q = entry_is (contents_of c.args.table) c.args.procedure c.in-Some.row (sym c.entry_row.ensures ∙ c.in-Some.is) in
     let h = ap (λ (w : List ℕ). handed_to (meanings c.args.rows.now) w c.args.procedure.first (stack_of c.in-Some.row)) (sym c.requires.none) ∙ p.after.2 in
     record {
       name = p.name;
@@ -57,7 +57,7 @@ pub returns-in-Ok : goal.returns-in-Ok
 returns-in-Ok c =
     let p = c.in-Ok.ensures in
     let s = c.settle.ensures in
-    let q = entry_is (contents_of c.args.table) c.args.procedure c.in-Some.row (sym c.entry-row.ensures ∙ c.in-Some.is) in
+    let q = entry_is (contents_of c.args.table) c.args.procedure c.in-Some.row (sym c.entry_row.ensures ∙ c.in-Some.is) in
     let l : length c.hand.new.rows ≡ length c.args.rows.now = c.hand.auto.rows in
     let h = ap (λ (w : List ℕ). handed_to (meanings c.args.rows.now) w c.args.procedure.first (stack_of c.in-Some.row)) (sym c.requires.none) ∙ p.after in
     record {

@@ -17,8 +17,8 @@ offset-bounds-rows-i c = let h = (waiting_row c.args.rows.now c.args.i (held c.a
 pub slice-copy-out·row : goal.slice-copy-out·row
 slice-copy-out·row c = (waiting_row c.args.rows.now c.args.i (held c.args.work.now) c.requires.ready).0
 
-pub hand-on-requires : goal.hand-on-requires
-hand-on-requires c =
+pub hand_on-requires : goal.hand_on-requires
+hand_on-requires c =
     let w = waiting_row c.args.rows.now c.args.i (held c.args.work.now) c.requires.ready in
     let p = c.in-Ok.ensures in
     record {
@@ -50,10 +50,10 @@ returns-in-Ok c =
     let w = waiting_row c.args.rows.now c.args.i (held c.args.work.now) c.requires.ready in
     let p = c.in-Ok.ensures in
     record {
-      name = c.hand-on.ensures.name;
-      after = subst (λ (q : Progress Stack Flaw). Follows c.hand-on.result q (meanings c.hand-on.new.rows) (held c.hand-on.new.work))
+      name = c.hand_on.ensures.name;
+      after = subst (λ (q : Progress Stack Flaw). Follows c.hand_on.result q (meanings c.hand_on.new.rows) (held c.hand_on.new.work))
           (sym (went_on (contents_of c.args.table) c.requires.checked (meanings c.args.rows.now) (held c.args.work.now) c.args.i _ c.in-Ok.sent w.2 (p.value c.requires.checked w.1)))
-          c.hand-on.ensures.after;
-      room = c.hand-on.ensures.room;
-      rest = c.hand-on.ensures.rest;
+          c.hand_on.ensures.after;
+      room = c.hand_on.ensures.room;
+      rest = c.hand_on.ensures.rest;
     }

@@ -14,40 +14,40 @@ use Rattle.judge.proofs.follow.settle.Goals as goal
 pub loop-i-smaller : goal.loop-i-smaller
 loop-i-smaller c =
     let p = c.in-Some.ensures in
-    let q = c.in-ok-judge-one.ensures in
+    let q = c.in-ok-judge_one.ensures in
     let wide : length c.loop-i.rows ≡ length c.args.table.code.now = c.loop-i.auto.rows ∙ c.requires.wide in
     let y = subst (Ready (meanings c.loop-i.rows)) p.items c.loop-i.invariant.1 in
-    let t = turned (contents_of c.args.table) c.requires.checked c.loop-i.rows c.judge-one.new.rows _ _ _ wide y q.after in
+    let t = turned (contents_of c.args.table) c.requires.checked c.loop-i.rows c.judge_one.new.rows _ _ _ wide y q.after in
     omega (arith, t.less, ap length p.items)
 
 pub loop-i-preserved : goal.loop-i-preserved
 loop-i-preserved c =
     let p = c.in-Some.ensures in
-    let q = c.in-ok-judge-one.ensures in
+    let q = c.in-ok-judge_one.ensures in
     let wide : length c.loop-i.rows ≡ length c.args.table.code.now = c.loop-i.auto.rows ∙ c.requires.wide in
     let y = subst (Ready (meanings c.loop-i.rows)) p.items c.loop-i.invariant.1 in
-    let t = turned (contents_of c.args.table) c.requires.checked c.loop-i.rows c.judge-one.new.rows _ _ _ wide y q.after in
+    let t = turned (contents_of c.args.table) c.requires.checked c.loop-i.rows c.judge_one.new.rows _ _ _ wide y q.after in
     let l = c.loop-i.auto.rows in (
       sym t.same ∙ sym (ap (settle (stacks (contents_of c.args.table)) (meanings c.loop-i.rows)) p.items) ∙ c.loop-i.invariant.0,
       t.ready,
       q.room ∙ p.room ∙ c.loop-i.invariant.2,
-      subst (λ (k : ℕ). drop k (places_of c.judge-one.new.work) ≡ drop k (places_of c.pop.new.self)) l q.rest
+      subst (λ (k : ℕ). drop k (places_of c.judge_one.new.work) ≡ drop k (places_of c.pop.new.self)) l q.rest
           ∙ ap (drop (length c.args.rows.now)) p.places ∙ c.loop-i.invariant.3,
       q.name ∙ p.name ∙ c.loop-i.invariant.4,
     )
 
 -- what the turn refuses, the whole does
-pub returns-in-err-judge-one : goal.returns-in-err-judge-one
-returns-in-err-judge-one c =
+pub returns-in-err-judge_one : goal.returns-in-err-judge_one
+returns-in-err-judge_one c =
     let p = c.in-Some.ensures in
-    let q = c.in-err-judge-one.ensures in
+    let q = c.in-err-judge_one.ensures in
     let r = err_from_is_err_and c.from-residual.result c.from-residual.ensures.1 in
     let l = c.loop-i.auto.rows in
     let wide : length c.loop-i.rows ≡ length c.args.table.code.now = l ∙ c.requires.wide in
     let out = turned_out (contents_of c.args.table) c.requires.checked c.loop-i.rows c.in-Some.i (held c.pop.new.self) q.after.0 q.after.1 wide q.after.2 in
     record {
       name = q.name ∙ p.name ∙ c.loop-i.invariant.4;
-      after = subst (λ (x : Result (Unit {0}) TableFault). Follows x (settle (stacks (contents_of c.args.table)) (meanings c.args.rows.now) (held c.args.work.now)) (meanings c.judge-one.new.rows) (held c.judge-one.new.work))
+      after = subst (λ (x : Result (Unit {0}) TableFault). Follows x (settle (stacks (contents_of c.args.table)) (meanings c.args.rows.now) (held c.args.work.now)) (meanings c.judge_one.new.rows) (held c.judge_one.new.work))
           (sym r.1) (
             q.after.0,
             q.after.1,
@@ -55,7 +55,7 @@ returns-in-err-judge-one c =
             r.2 ∙ q.after.3,
           );
       room = q.room ∙ p.room ∙ c.loop-i.invariant.2;
-      rest = subst (λ (k : ℕ). drop k (places_of c.judge-one.new.work) ≡ drop k (places_of c.pop.new.self)) l q.rest
+      rest = subst (λ (k : ℕ). drop k (places_of c.judge_one.new.work) ≡ drop k (places_of c.pop.new.self)) l q.rest
           ∙ ap (drop (length c.args.rows.now)) p.places ∙ c.loop-i.invariant.3;
     }
 

@@ -9,10 +9,10 @@ pub returns-in-Ok : goal.returns-in-Ok
 returns-in-Ok c =
     let p = c.in-Ok.ensures in
     let few : depth c.args.work.now < length c.args.rows.now =
-    c.requires.few (none_there c.args.rows.now (held c.args.work.now) c.args.j c.args.row c.requires.inside (sym c.if-not-is-reached.ensures)) in
+    c.requires.few (none_there c.args.rows.now (held c.args.work.now) c.args.j c.args.row c.requires.inside (sym c.if-not-is_reached.ensures)) in
     record {
       name = p.name;
-      after = taken c.args.rows.now (held c.args.work.now) c.args.j c.args.row c.requires.inside _ (sym c.if-not-is-reached.ensures) c.requires.row p.held;
+      after = taken c.args.rows.now (held c.args.work.now) c.args.j c.args.row c.requires.inside _ (sym c.if-not-is_reached.ensures) c.requires.row p.held;
       room = p.room;
       rest = ap (drop (length c.args.rows.now)) p.places ∙ drop-set-lt (length c.args.rows.now) (places_of c.args.work.now) (depth c.args.work.now) c.args.j few;
     }
@@ -20,14 +20,14 @@ returns-in-Ok c =
 pub returns-in-Err : goal.returns-in-Err
 returns-in-Err c =
     let few : depth c.args.work.now < length c.args.rows.now =
-    c.requires.few (none_there c.args.rows.now (held c.args.work.now) c.args.j c.args.row c.requires.inside (sym c.if-not-is-reached.ensures)) in
+    c.requires.few (none_there c.args.rows.now (held c.args.work.now) c.args.j c.args.row c.requires.inside (sym c.if-not-is_reached.ensures)) in
     absurd (never_full (depth c.args.work.now) (length (places_of c.args.work.now)) c.push.result c.in-Err.field-0 (omega (arith, few, c.requires.room)) c.push.ensures.value c.in-Err.is)
 
 pub returns-then-eq : goal.returns-then-eq
 returns-then-eq c = record {
   name = refl;
-  after = kept c.args.rows.now (held c.args.work.now) c.args.j c.args.row c.requires.inside c.eq.result (sym c.if-not-is-reached.ensures)
-      (c.eq.ensures.2 (sym c.if-not-is-reached.ensures) c.requires.row) c.if-eq.true;
+  after = kept c.args.rows.now (held c.args.work.now) c.args.j c.args.row c.requires.inside c.eq.result (sym c.if-not-is_reached.ensures)
+      (c.eq.ensures.2 (sym c.if-not-is_reached.ensures) c.requires.row) c.if-eq.true;
   room = refl;
   rest = refl;
 }
@@ -38,8 +38,8 @@ returns-else-eq c = record {
   after = (
     Differs,
     c.args.j,
-    clashed c.args.rows.now (held c.args.work.now) c.args.j c.args.row c.requires.inside c.eq.result (sym c.if-not-is-reached.ensures)
-        (c.eq.ensures.2 (sym c.if-not-is-reached.ensures) c.requires.row) c.if-eq.false,
+    clashed c.args.rows.now (held c.args.work.now) c.args.j c.args.row c.requires.inside c.eq.result (sym c.if-not-is_reached.ensures)
+        (c.eq.ensures.2 (sym c.if-not-is_reached.ensures) c.requires.row) c.if-eq.false,
     c.at.ensures,
   );
   room = refl;

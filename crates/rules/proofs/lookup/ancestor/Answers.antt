@@ -9,5 +9,5 @@ returns-then-a-eq0 c = sym (climb_none (contents_of c.args.table) c.loop-left.le
 
 pub loop-left-preserved : goal.loop-left-preserved
 loop-left-preserved c =
-    ap (λ (x : Procedure). ancestor (contents_of c.args.table) (c.loop-left.left - 1) x.parent) c.procedure-at-a.ensures
+    ap (λ (x : Procedure). ancestor (contents_of c.args.table) (c.loop-left.left - 1) x.parent) c.procedure_at-a.ensures
     ∙ (sym (climb_more (contents_of c.args.table) c.loop-left.left c.loop-left.a c.loop-left-test.true c.if-a-eq0.false) ∙ c.loop-left.invariant)

@@ -47,8 +47,8 @@ returns-in-Err g c =
       small = small_tables_come_out;
     }
 
-pub make-all-requires : goal.make-all-requires
-make-all-requires g c =
+pub make_all-requires : goal.make_all-requires
+make_all-requires g c =
     let enough : length c.args.calls.now ≤ length c.args.answers.now = omega arith in
     record {
       fits = fits c.args.table c.args.rows c.args.calls.now (g.S.Store.cells c.args.store.now) (g.H.Host.means c.args.host.now) c.args.answers.now c.in-ok-passed.passed c.in-Ok.begun _ c.in-ok-passed.ensures.value enough c.in-Ok.ensures.value c.in-Ok.ensures.after;
@@ -60,7 +60,7 @@ returns g c =
     let enough : length c.args.calls.now ≤ length c.args.answers.now = omega arith in
     let p = c.in-ok-passed.ensures.value in
     let b = c.in-Ok.ensures in
-    let m = c.make-all.ensures in
+    let m = c.make_all.ensures in
     record {
       value = by_all c.args.table c.args.rows c.args.calls.now (g.S.Store.cells c.args.store.now) (g.H.Host.means c.args.host.now) c.args.answers.now c.in-ok-passed.passed c.in-Ok.begun _ p enough b.value b.after _ _ _ _ m.value m.after m.same;
       kept = by_promise c.args.table c.args.rows c.args.calls.now (g.S.Store.cells c.args.store.now) (g.H.Host.means c.args.host.now) c.args.answers.now c.in-ok-passed.passed c.in-Ok.begun _ p enough b.value b.after _ _ _ _ m.value m.after m.same;

@@ -11,4 +11,4 @@ returns-then-kinds-gt40 c =
     too_many (map Value kinds) (omega (arith, length-map kinds Value, c.if-kinds-gt40.true)) ∙ ap (λ ts. packed (map Value ts)) c.parameters-kinds.ensures
 
 pub returns : goal.returns
-returns c = c.pack.ensures ∙ ap packed (c.put-all.ensures.held ∙ ap (map Value) c.parameters-kinds.ensures)
+returns c = c.pack.ensures ∙ ap packed (c.put_all.ensures.held ∙ ap (map Value) c.parameters-kinds.ensures)

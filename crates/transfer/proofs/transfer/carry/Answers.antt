@@ -10,10 +10,10 @@ use Rattle.transfer.proofs.Fitting.{goes_by}
 use Rattle.transfer.proofs.Checking.{rooms, fits_the_stack}
 use Rattle.transfer.proofs.transfer.carry.Goals as goal
 
-pub hand-on-requires : goal.hand-on-requires
-hand-on-requires c = record {
-  row = sym c.if-not-is-reached.ensures;
-  inside = (nth_some c.args.table.code.now c.args.n c.in-Some.x (sym c.instruction-at.ensures ∙ c.in-Some.is)).0;
+pub hand_on-requires : goal.hand_on-requires
+hand_on-requires c = record {
+  row = sym c.if-not-is_reached.ensures;
+  inside = (nth_some c.args.table.code.now c.args.n c.in-Some.x (sym c.instruction_at.ensures ∙ c.in-Some.is)).0;
 }
 
 pub returns-in-default : goal.returns-in-default
@@ -21,10 +21,10 @@ returns-in-default c =
     let T = contents_of c.args.table in
     let n = c.args.n in
     let x = c.in-Some.x in
-    let there : slice_get T.code n ≡ Some x = sym c.instruction-at.ensures ∙ c.in-Some.is in
+    let there : slice_get T.code n ≡ Some x = sym c.instruction_at.ensures ∙ c.in-Some.is in
     record {
-      value = λ ok v. c.hand-on.ensures.value (rooms T ok n) (ap (λ (e : Effect). fitting e.gives) c.effect-of-effect.ensures.value ∙ fits_the_stack T ok n x there)
-          ∙ goes_by T n c.effect-of-effect.result x (stack_of c.args.row) c.effect-of-effect.ensures.value there c.in-default.not-Halt;
-      stray = λ e. absurd (false≢true (sym e ∙ sym c.if-not-is-reached.ensures));
-      row = c.hand-on.ensures.row;
+      value = λ ok v. c.hand_on.ensures.value (rooms T ok n) (ap (λ (e : Effect). fitting e.gives) c.effect_of-effect.ensures.value ∙ fits_the_stack T ok n x there)
+          ∙ goes_by T n c.effect_of-effect.result x (stack_of c.args.row) c.effect_of-effect.ensures.value there c.in-default.not-Halt;
+      stray = λ e. absurd (false≢true (sym e ∙ sym c.if-not-is_reached.ensures));
+      row = c.hand_on.ensures.row;
     }

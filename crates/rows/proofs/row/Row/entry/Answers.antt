@@ -14,4 +14,4 @@ returns-then-i-ge40 c =
 pub returns : goal.returns
 returns c =
     let k : length c.args.self.bytes ≡ 40 = search rules in
-    ap Some c.of-byte.ensures ∙ sym (nth_there c.args.self.bytes c.args.self.len c.args.i (ltb-true _ _ (sym c.if-not-holds.ensures)) (omega arith))
+    ap Some c.of_byte.ensures ∙ sym (nth_there c.args.self.bytes c.args.self.len c.args.i (ltb-true _ _ (sym c.if-not-holds.ensures)) (omega arith))

@@ -15,16 +15,16 @@ returns-in-default c =
     let k : length (bottom_first c.args.stack.now) ≡ c.len-n.result = search rules in
     absurd (nth_none (bottom_first c.args.stack.now) c.loop-i.i (sym c.at.ensures ∙ c.in-default.is) (omega (arith, k)))
 
-pub returns-in-default-packed-byte : goal.returns-in-default-packed-byte
-returns-in-default-packed-byte c =
+pub returns-in-default-packed_byte : goal.returns-in-default-packed_byte
+returns-in-default-packed_byte c =
     one_improper (bottom_first c.args.stack.now) c.loop-i.i c.in-Some.entry (sym c.at.ensures ∙ c.in-Some.is)
-    (byte_none c.in-Some.entry (sym c.packed-byte.ensures ∙ c.in-default-packed-byte.is)) c.loop-i.invariant.1
+    (byte_none c.in-Some.entry (sym c.packed_byte.ensures ∙ c.in-default-packed_byte.is)) c.loop-i.invariant.1
 
 pub loop-i-preserved : goal.loop-i-preserved
 loop-i-preserved c =
     let there = sym c.at.ensures ∙ c.in-Some.is in
-    let written = byte_some c.in-Some.entry c.in-Some-packed-byte.byte (sym c.packed-byte.ensures ∙ c.in-Some-packed-byte.is) in (
-      one_written (bottom_first c.args.stack.now) c.loop-i.i c.in-Some-packed-byte.byte c.in-Some.entry c.loop-i.bytes (omega arith) there written.1 c.loop-i.invariant.0,
+    let written = byte_some c.in-Some.entry c.in-Some-packed_byte.byte (sym c.packed_byte.ensures ∙ c.in-Some-packed_byte.is) in (
+      one_written (bottom_first c.args.stack.now) c.loop-i.i c.in-Some-packed_byte.byte c.in-Some.entry c.loop-i.bytes (omega arith) there written.1 c.loop-i.invariant.0,
       one_proper (bottom_first c.args.stack.now) c.loop-i.i c.in-Some.entry there written.0 c.loop-i.invariant.1,
     )
 
