@@ -3,7 +3,7 @@
 --   real_relation: of reals, by IEEE 754's comparisons: -0 equals 0
 --   rank: false below true
 --   relation: of two values of one kind
-use Rattle.std.specs.Prelude.{Bool, true, false, cond, not, ℤ, pos, negsuc, Ok, ◌==◌, int_le, int_lt, Float}
+use Rattle.std.specs.Prelude.{Bool, false, cond, not, ℤ, pos, negsuc, Ok, ◌==◌, int_le, int_lt, Float}
 use Rattle.std.specs.Float.Ieee as Ieee
 use Rattle.sheet.specs.declared.kind.Kind.{Kind}
 use Rattle.sheet.specs.declared.kind.Kind.TheVariants.{Address, Boolean, Character, Integer, Real}

@@ -1,13 +1,13 @@
 -- Judging is exact. Assumes nothing.
-use Rattle.std.proofs.Common.{◌≡◌, ℕ, Bool, true, false, ◌⊎◌, ◌↔◌, List, [], ◌∷◌, Some, None, Option, refl, ap, ◌∙◌, subst, inl, inr, arith}
-use Rattle.paths.specs.Lists.{In, All}
-use Rattle.paths.specs.Flows.{Hand, Transfer, breaks, hands_on, keep, lower, clash, Flow, Below, Inside, Lawful, Monotone}
+use Rattle.std.proofs.Common.{◌≡◌, ℕ, Bool, true, false, ◌↔◌, List, [], Some, refl, ap, ◌∙◌, subst, inl, inr, arith}
+use Rattle.paths.specs.Lists.{In}
+use Rattle.paths.specs.Flows.{Hand, Transfer, hands_on, keep, lower, clash, Flow, Below, Inside, Lawful, Monotone}
 use Rattle.paths.specs.Paths.{PathTo, start, next, Reached, Clean, MetOnAPath}
 use Rattle.paths.specs.Rows.{Rows, row_at, count, Local}
 use Rattle.paths.specs.Judging.{Progress, going, refused, judge}
 use Rattle.paths.specs.Invariants.{Closed, Keeps}
 use Rattle.paths.specs.Exact.{agree, Tells, strict, Accepts, Exact, JudgeIsExact}
-use Rattle.paths.proofs.Lists.{all_in, all_of}
+use Rattle.paths.proofs.Lists.{all_of}
 use Rattle.paths.proofs.Judging.{judge_keeps}
 use Rattle.paths.proofs.Counts.{counts_as, counts_rows}
 use Rattle.paths.proofs.Covers.{covers, keeps}

@@ -1,8 +1,7 @@
 -- Any kind of row with a way of meeting: judging finds the greatest rows that hold locally. Assumes nothing.
-use Rattle.std.proofs.Common.{◌≡◌, ℕ, ◌⊎◌, ◌↔◌, List, [], ◌∷◌, Some, refl, subst, inl, inr, arith}
-use Rattle.paths.specs.Lists.{All}
-use Rattle.paths.specs.Flows.{Hand, breaks, hands_on, lower, clash, Flow, Below, Lawful, Monotone, GreatestBelow}
-use Rattle.paths.specs.Rows.{Rows, row_at, Held, Local}
+use Rattle.std.proofs.Common.{◌≡◌, ℕ, List, refl, subst, inl, inr, arith}
+use Rattle.paths.specs.Flows.{Flow, Below, Lawful, Monotone, GreatestBelow}
+use Rattle.paths.specs.Rows.{Rows, Held, Local}
 use Rattle.paths.specs.Judging.{Progress, going, refused, judge}
 use Rattle.paths.specs.Invariants.{Closed, Caused, Keeps}
 use Rattle.paths.specs.Exact.{Accepts}

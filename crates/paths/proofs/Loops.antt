@@ -1,7 +1,7 @@
 -- A loop over the work list, turn by turn. Assumes nothing.
-use Rattle.std.proofs.Common.{◌≡◌, ℕ, zero, suc, ◌+◌, ◌<◌, ◌≤◌, ◌⊎◌, List, [], ◌∷◌, length, Some, None, Option, sym, refl, ap, ◌∙◌, subst, inl, inr, arith}
+use Rattle.std.proofs.Common.{◌≡◌, ℕ, zero, suc, ◌+◌, ◌≤◌, List, [], ◌∷◌, length, Some, None, Option, sym, refl, ap, ◌∙◌, subst, inl, arith}
 use Rattle.paths.specs.Lists.{All}
-use Rattle.paths.specs.Flows.{Hand, Transfer, breaks, hands_on, Flow, Lawful}
+use Rattle.paths.specs.Flows.{Transfer, breaks, hands_on, Flow, Lawful}
 use Rattle.paths.specs.Rows.{Rows, row_at, Held}
 use Rattle.paths.specs.Judging.{Progress, going, refused, then, hand, hand_all, judge_by, judge_at, judge_one, run, weight, settle}
 use Rattle.paths.specs.Invariants.{Cases, Closed, Caused}

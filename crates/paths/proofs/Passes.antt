@@ -1,7 +1,7 @@
 -- Rows that judge leaves, admit passes. Assumes nothing.
-use Rattle.std.proofs.Common.{◌≡◌, ℕ, List, Some, None, Option, subst}
+use Rattle.std.proofs.Common.{◌≡◌, ℕ, None, Option, subst}
 use Rattle.paths.specs.Flows.{Flow, Lawful}
-use Rattle.paths.specs.Judging.{Progress, going, judge}
+use Rattle.paths.specs.Judging.{Progress, going}
 use Rattle.paths.specs.Invariants.{Closed, Keeps}
 use Rattle.paths.specs.Admitting.{entry_at}
 use Rattle.paths.specs.Admitted.{Apart, Suits, Passes}

@@ -6,9 +6,9 @@
 --   Keeps: judging leaves rows that hold locally and of which B holds, or names a fault that is there
 use Rattle.std.specs.Prelude.{◌≡◌, ℕ, ◌⊎◌, List, Some}
 use Rattle.paths.specs.Lists.{All}
-use Rattle.paths.specs.Flows.{Hand, breaks, hands_on, lower, clash, Flow, Lawful}
+use Rattle.paths.specs.Flows.{Hand, breaks, hands_on, lower, clash, Flow}
 use Rattle.paths.specs.Rows.{Rows, row_at, Local}
-use Rattle.paths.specs.Judging.{Progress, going, refused, judge}
+use Rattle.paths.specs.Judging.{Progress, going, refused}
 
 abbrev pub Cases : {R F : Type 0} → (Rows R → List ℕ → Type 0) → (F → ℕ → Type 0) → Progress R F → Type 0
 Cases P Q (going rows work) = P rows work

@@ -8,7 +8,7 @@ use Rattle.std.specs.Prelude.{◌≡◌, ℕ, ◌+◌, ◌<◌, ◌≤◌, List,
 use Rattle.paths.specs.Lists.{In, Distinct}
 use Rattle.paths.specs.Flows.{Hand, breaks, hands_on, Flow, Lawful}
 use Rattle.paths.specs.Rows.{Rows, row_at}
-use Rattle.paths.specs.Judging.{going, refused, then, hand, hand_all, judge_one, weight, settle, enter, judge}
+use Rattle.paths.specs.Judging.{going, refused, then, hand, judge_one, weight, settle, enter, judge}
 use Rattle.paths.specs.Invariants.{Cases}
 
 pub record Ready {R : Type 0} (rows : Rows R) (work : List ℕ) : Type 0 where

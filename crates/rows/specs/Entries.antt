@@ -2,8 +2,7 @@
 --   entry_of, byte_of: an entry as a byte, the letter of its kind or the number of its mark
 --   proper: whether a stack may hold it
 --   cells_of_entry: the cells of the store that it stands for
-use Rattle.std.specs.Prelude.{ℕ, Bool, true, false, cond, ◌==◌, nat_lt}
-use Rattle.sheet.specs.declared.kind.Kind.{Kind}
+use Rattle.std.specs.Prelude.{ℕ, Bool, true, cond, ◌==◌, nat_lt}
 use Rattle.sheet.specs.declared.kind.Kind.TheVariants.{Address, Boolean, Character, Integer, Real}
 use Rattle.sheet.specs.Kinds.{letter_of}
 use Rattle.rows.specs.declared.entry.Entry.{Entry}

@@ -4,7 +4,7 @@
 --   meaning: the stack that it holds, the top first
 --   packed_byte: the byte of an entry, if a row may hold it
 --   packed: the record of a stack, if that is a row
-use Rattle.std.specs.Prelude.{ℕ, ◌-◌, Bool, true, false, cond, ◌&&◌, List, [], ◌∷◌, ◌++◌, map, reverse, length, take, drop, replicate, Some, None, Option, nat_eq, nat_le}
+use Rattle.std.specs.Prelude.{ℕ, ◌-◌, Bool, true, cond, ◌&&◌, List, [], ◌∷◌, ◌++◌, map, reverse, length, take, drop, replicate, Some, None, Option, nat_eq, nat_le}
 use Rattle.std.specs.Str.{bytes_eq}
 use Rattle.rows.specs.declared.entry.Entry.{Entry}
 use Rattle.rows.specs.declared.row.Row.{Row}

@@ -3,7 +3,7 @@
 --   kind_of: the kind of a value
 --   is_value: whether a record is a value: a real is finite
 --   same: whether two kinds are one
-use Rattle.std.specs.Prelude.{ℕ, Bool, true, false, ◌==◌}
+use Rattle.std.specs.Prelude.{ℕ, Bool, true, ◌==◌}
 use Rattle.std.specs.Float.{float_is_finite}
 use Rattle.sheet.specs.declared.kind.Kind.{Kind}
 use Rattle.sheet.specs.declared.kind.Kind.TheVariants as k

@@ -3,7 +3,7 @@
 --   name_of: its four columns
 --   shape_of: letters, whether p and q are used, and what they must name
 --   named: the mnemonic that a name of four columns stands for
-use Rattle.std.specs.Prelude.{◌≡◌, ℕ, Bool, true, false, cond, List, [], ◌∷◌, Some, None, codes, Option}
+use Rattle.std.specs.Prelude.{◌≡◌, ℕ, true, false, cond, List, [], ◌∷◌, Some, None, codes, Option}
 use Rattle.std.specs.Str.{bytes_eq}
 use Rattle.sheet.specs.declared.mnemonic.Mnemonic.{Mnemonic}
 use Rattle.sheet.specs.declared.mnemonic.Mnemonic.TheVariants.{Add, Sub, Mul, Div, Neg, And, Or, Not, Equ, Neq, Les, Leq, Grt, Geq, Ldc, Ldo, Sro, Lod, Str, Lda, Ind, Sto, Dpl, Ixa, Inc, Dec, Chk, Ujp, Fjp, In, Out, Conv, Mst, Cup, Ent, Retf, Retp, Hlt}

@@ -4,8 +4,8 @@ use Rattle.admit.specs.Admissions.{admission}
 use Rattle.admit.proofs.Laws.{right, passes_exactly_right_rows}
 use Rattle.admit.proofs.admit.Goals as goal
 
-pub returns-in-err-check_all : goal.returns-in-err-check_all
-returns-in-err-check_all c =
+pub returns-in_err-check_all : goal.returns-in_err-check_all
+returns-in_err-check_all c =
     let v : c.from-residual.result ≡ admission c.args.table c.args.rows = search rules in
     record {
       value = v;

@@ -6,11 +6,11 @@ use Rattle.transfer.specs.Stacks.{cells_on}
 use Rattle.transfer.proofs.Stacking.{nth_none, cells_more, few_cells, row_entries}
 use Rattle.admit.proofs.height.cells_of.Goals as goal
 
-pub returns-in-default : goal.returns-in-default
-returns-in-default c =
+pub returns-in_default : goal.returns-in_default
+returns-in_default c =
     let w : length c.args.row.bytes ≡ 40 = search rules in
     let k = row_entries c.args.row w (valid_len c.args.row c.requires) in
-    let past = nth_none (entries c.args.row) c.loop-i.i (sym c.entry.ensures ∙ c.in-default.is) in
+    let past = nth_none (entries c.args.row) c.loop-i.i (sym c.entry.ensures ∙ c.in_default.is) in
     absurd (omega (arith, k, past, c.len-i-end.ensures))
 
 pub loop-i-preserved : goal.loop-i-preserved

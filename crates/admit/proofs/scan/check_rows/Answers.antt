@@ -8,16 +8,16 @@ use Rattle.admit.proofs.scan.check_rows.Goals as goal
 pub loop-i-init : goal.loop-i-init
 loop-i-init c = begins (contents_of c.args.table) c.requires.checked (meanings c.args.rows.now)
 
-pub returns-in-err-check_at : goal.returns-in-err-check_at
-returns-in-err-check_at c =
+pub returns-in_err-check_at : goal.returns-in_err-check_at
+returns-in_err-check_at c =
     let r = err_from_is_err_and c.from-residual.result c.from-residual.ensures.1 in
     r.1 ∙ ap Err r.2
-    ∙ sym (row_refused (contents_of c.args.table) c.requires.checked c.args.rows.now c.requires.wide c.loop-i.i _ c.loop-i-test.true _ c.in-err-check_at.ensures)
+    ∙ sym (row_refused (contents_of c.args.table) c.requires.checked c.args.rows.now c.requires.wide c.loop-i.i _ c.loop-i-test.true _ c.in_err-check_at.ensures)
     ∙ c.loop-i.invariant
 
 pub loop-i-preserved : goal.loop-i-preserved
 loop-i-preserved c =
-    sym (row_passes (contents_of c.args.table) c.requires.checked c.args.rows.now c.requires.wide c.loop-i.i _ c.loop-i-test.true c.in-ok-check_at.ensures) ∙ c.loop-i.invariant
+    sym (row_passes (contents_of c.args.table) c.requires.checked c.args.rows.now c.requires.wide c.loop-i.i _ c.loop-i-test.true c.in_ok-check_at.ensures) ∙ c.loop-i.invariant
 
 pub returns : goal.returns
 returns c =

@@ -1,4 +1,4 @@
-use Rattle.std.proofs.Common.{◌≡◌, sym, ◌∙◌, subst, SFits}
+use Rattle.std.proofs.Common.{sym, ◌∙◌, subst, SFits}
 use mir.Syntax.{w128}
 use Rattle.arith.proofs.Ranges.{reach_fits, reach_is, reach_held}
 use Rattle.arith.proofs.exact.indexed.Goals as goal

@@ -38,8 +38,8 @@ settle-requires c =
       room = omega (arith, l, p.room, c.requires.room);
     }
 
-pub returns-in-default : goal.returns-in-default
-returns-in-default c = absurd (entry_there (contents_of c.args.table) c.args.procedure c.requires.few (sym c.entry_row.ensures ∙ c.in-default.is))
+pub returns-in_default : goal.returns-in_default
+returns-in_default c = absurd (entry_there (contents_of c.args.table) c.args.procedure c.requires.few (sym c.entry_row.ensures ∙ c.in_default.is))
 
 pub returns-in-Err : goal.returns-in-Err
 returns-in-Err c =

@@ -22,8 +22,8 @@ enter-requires c =
     record {
       checked = c.requires.checked;
       wide = c.loop-procedure.auto.rows ∙ c.requires.wide;
-      inside = k.first-is-inside;
-      few = k.few-parameters;
+      inside = k.first_is_inside;
+      few = k.few_parameters;
       none = c.loop-procedure.invariant.1;
       room = omega (arith, c.loop-procedure.auto.rows, c.loop-procedure.invariant.2, c.requires.room);
     }
@@ -33,10 +33,10 @@ loop-procedure-preserved c =
     let T = contents_of c.args.table in
     let Ps = c.args.table.procedures.now in
     let i = c.loop-procedure.procedure-index in
-    let q = c.in-ok-enter.ensures in
+    let q = c.in_ok-enter.ensures in
     let l = c.loop-procedure.auto.rows in
     let m : length (meanings c.loop-procedure.rows) ≡ length c.loop-procedure.rows = length-map c.loop-procedure.rows meaning in
-    let k = (procedure_keeps T c.requires.checked i c.loop-procedure-test.true).first-is-inside in
+    let k = (procedure_keeps T c.requires.checked i c.loop-procedure-test.true).first_is_inside in
     let n = next_procedure T c.requires.checked (get_or Ps i no_procedure) (drop (i + 1) Ps) (meanings c.loop-procedure.rows) (m ∙ l ∙ c.requires.wide) (omega (arith, m, l, c.requires.wide, k)) (meanings c.enter.new.rows) (held c.enter.new.work) q.after in (
       sym n.0 ∙ sym (ap (λ (Qs : List Procedure). enter (stacks T) (map (entry_of T) Qs) (meanings c.loop-procedure.rows)) (drop_more Ps i no_procedure c.loop-procedure-test.true)) ∙ c.loop-procedure.invariant.0,
       n.1,
@@ -45,16 +45,16 @@ loop-procedure-preserved c =
       q.name ∙ c.loop-procedure.invariant.4,
     )
 
-pub returns-in-err-enter : goal.returns-in-err-enter
-returns-in-err-enter c =
+pub returns-in_err-enter : goal.returns-in_err-enter
+returns-in_err-enter c =
     let T = contents_of c.args.table in
     let Ps = c.args.table.procedures.now in
     let i = c.loop-procedure.procedure-index in
-    let q = c.in-err-enter.ensures in
+    let q = c.in_err-enter.ensures in
     let r = err_from_is_err_and c.from-residual.result c.from-residual.ensures.1 in
     let l = c.loop-procedure.auto.rows in
     let m : length (meanings c.loop-procedure.rows) ≡ length c.loop-procedure.rows = length-map c.loop-procedure.rows meaning in
-    let k = (procedure_keeps T c.requires.checked i c.loop-procedure-test.true).first-is-inside in
+    let k = (procedure_keeps T c.requires.checked i c.loop-procedure-test.true).first_is_inside in
     let out = out_of_procedure T c.requires.checked (get_or Ps i no_procedure) (drop (i + 1) Ps) (meanings c.loop-procedure.rows) (m ∙ l ∙ c.requires.wide) (omega (arith, m, l, c.requires.wide, k)) q.after.0 q.after.1 q.after.2 in
     record {
       name = q.name ∙ c.loop-procedure.invariant.4;

@@ -14,7 +14,7 @@ use Rattle.judge.proofs.follow.settle.Goals as goal
 pub loop-i-smaller : goal.loop-i-smaller
 loop-i-smaller c =
     let p = c.in-Some.ensures in
-    let q = c.in-ok-judge_one.ensures in
+    let q = c.in_ok-judge_one.ensures in
     let wide : length c.loop-i.rows ≡ length c.args.table.code.now = c.loop-i.auto.rows ∙ c.requires.wide in
     let y = subst (Ready (meanings c.loop-i.rows)) p.items c.loop-i.invariant.1 in
     let t = turned (contents_of c.args.table) c.requires.checked c.loop-i.rows c.judge_one.new.rows _ _ _ wide y q.after in
@@ -23,7 +23,7 @@ loop-i-smaller c =
 pub loop-i-preserved : goal.loop-i-preserved
 loop-i-preserved c =
     let p = c.in-Some.ensures in
-    let q = c.in-ok-judge_one.ensures in
+    let q = c.in_ok-judge_one.ensures in
     let wide : length c.loop-i.rows ≡ length c.args.table.code.now = c.loop-i.auto.rows ∙ c.requires.wide in
     let y = subst (Ready (meanings c.loop-i.rows)) p.items c.loop-i.invariant.1 in
     let t = turned (contents_of c.args.table) c.requires.checked c.loop-i.rows c.judge_one.new.rows _ _ _ wide y q.after in
@@ -37,10 +37,10 @@ loop-i-preserved c =
     )
 
 -- what the turn refuses, the whole does
-pub returns-in-err-judge_one : goal.returns-in-err-judge_one
-returns-in-err-judge_one c =
+pub returns-in_err-judge_one : goal.returns-in_err-judge_one
+returns-in_err-judge_one c =
     let p = c.in-Some.ensures in
-    let q = c.in-err-judge_one.ensures in
+    let q = c.in_err-judge_one.ensures in
     let r = err_from_is_err_and c.from-residual.result c.from-residual.ensures.1 in
     let l = c.loop-i.auto.rows in
     let wide : length c.loop-i.rows ≡ length c.args.table.code.now = l ∙ c.requires.wide in
@@ -61,7 +61,7 @@ returns-in-err-judge_one c =
 
 pub returns : goal.returns
 returns c =
-    let p = c.in-default.ensures in
+    let p = c.in_default.ensures in
     let none : held c.loop-i.work ≡ [] = none_left (held c.loop-i.work) (sym p.value) in
     let ended = nothing_waits (contents_of c.args.table) c.requires.checked c.loop-i.rows (held c.loop-i.work) none in
     record {

@@ -7,19 +7,19 @@ use Rattle.prepare.specs.Preparing.{ready}
 use Rattle.prepare.proofs.Reading.{reads, ready_is, rows_are, places_are, records_are}
 use Rattle.prepare.proofs.prepare.prepare.Goals as goal
 
-pub returns-in-err-reached : goal.returns-in-err-reached
-returns-in-err-reached c =
+pub returns-in_err-reached : goal.returns-in_err-reached
+returns-in_err-reached c =
     let R = read_table (room_of c.args.procedures.now c.args.cells.now c.args.code.now) c.args.text.now in
-    let e = c.in-ok-extent.extent in
+    let e = c.in_ok-extent.extent in
     let U = contents_of c.table_in-table.result in
-    let q = c.in-ok-extent.ensures in
+    let q = c.in_ok-extent.ensures in
     let t = reads c.args.text.now c.args.procedures.now c.read_table.new.procedures c.args.cells.now c.read_table.new.cells c.args.code.now c.read_table.new.code e
     q.value q.procedures q.cells q.code in
     let same = c.table_in-table.ensures ∙ t.holds in
-    let j = c.in-err-reached.ensures in
-    let r = err_from_is_err_and c.from-residual-in-err-reached.result c.from-residual-in-err-reached.ensures.1 in
+    let j = c.in_err-reached.ensures in
+    let r = err_from_is_err_and c.from-residual-in_err-reached.result c.from-residual-in_err-reached.ensures.1 in
     record {
-      value = ready_is R t.table U e t.answer t.extent same (length c.args.rows.now) (length c.args.places.now) c.from-residual-in-err-reached.result (r.1 ∙ ap Err r.2 ∙ ap (ready e) j.value);
+      value = ready_is R t.table U e t.answer t.extent same (length c.args.rows.now) (length c.args.places.now) c.from-residual-in_err-reached.result (r.1 ∙ ap Err r.2 ∙ ap (ready e) j.value);
       procedures = q.procedures;
       cells = q.cells;
       code = q.code;
@@ -31,15 +31,15 @@ returns-in-err-reached c =
 pub returns : goal.returns
 returns c =
     let R = read_table (room_of c.args.procedures.now c.args.cells.now c.args.code.now) c.args.text.now in
-    let e = c.in-ok-extent.extent in
+    let e = c.in_ok-extent.extent in
     let U = contents_of c.table_in-table.result in
-    let q = c.in-ok-extent.ensures in
+    let q = c.in_ok-extent.ensures in
     let t = reads c.args.text.now c.args.procedures.now c.read_table.new.procedures c.args.cells.now c.read_table.new.cells c.args.code.now c.read_table.new.code e
     q.value q.procedures q.cells q.code in
     let same = c.table_in-table.ensures ∙ t.holds in
-    let j = c.in-ok-reached.ensures in
+    let j = c.in_ok-reached.ensures in
     record {
-      value = ready_is R t.table U e t.answer t.extent same (length c.args.rows.now) (length c.args.places.now) (Ok (record { extent = e; reached = c.in-ok-reached.reached })) (ap (ready e) j.value);
+      value = ready_is R t.table U e t.answer t.extent same (length c.args.rows.now) (length c.args.places.now) (Ok (record { extent = e; reached = c.in_ok-reached.reached })) (ap (ready e) j.value);
       procedures = q.procedures;
       cells = q.cells;
       code = q.code;

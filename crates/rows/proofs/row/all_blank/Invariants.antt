@@ -1,6 +1,5 @@
-use Rattle.std.proofs.Common.{◌≡◌, map, drop}
-use Rattle.rows.specs.Entries.{entry_of, proper}
-use Rattle.rows.specs.Rows.{every, blanks}
+use Rattle.std.proofs.Common.{◌≡◌, drop}
+use Rattle.rows.specs.Rows.{blanks}
 use Rattle.rows.proofs.row.all_blank.Given as goal
 
 -- what is left decides

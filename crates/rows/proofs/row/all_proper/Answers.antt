@@ -1,4 +1,4 @@
-use Rattle.std.proofs.Common.{◌≡◌, true, false, sym, ap, ◌∙◌, subst, arith}
+use Rattle.std.proofs.Common.{sym, ap, ◌∙◌, arith}
 use Rattle.rows.specs.Entries.{entry_of, proper}
 use Rattle.rows.proofs.Laws.{every_on, every_off, every_end, every_map}
 use Rattle.rows.proofs.row.all_proper.Goals as goal

@@ -8,11 +8,11 @@ use Rattle.run.proofs.Promising.{equal_counts}
 use Rattle.run.proofs.Undergoing.{by_table, by_answers, by_store, fits, by_all, by_promise, none_kept}
 use Rattle.run.proofs.undergo.undergo.Goals as goal
 
-pub returns-in-err-passed : goal.returns-in-err-passed
-returns-in-err-passed g c =
+pub returns-in_err-passed : goal.returns-in_err-passed
+returns-in_err-passed g c =
     let r = err_from_is_err_and c.from-residual.result c.from-residual.ensures.1 in
     record {
-      value = by_table c.args.table c.args.rows c.args.calls.now (g.S.Store.cells c.args.store.now) (g.H.Host.means c.args.host.now) c.args.answers.now _ _ _ r.1 r.2 c.in-err-passed.ensures.value;
+      value = by_table c.args.table c.args.rows c.args.calls.now (g.S.Store.cells c.args.store.now) (g.H.Host.means c.args.host.now) c.args.answers.now _ _ _ r.1 r.2 c.in_err-passed.ensures.value;
       kept = none_kept c.args.table c.args.rows.now (length (g.S.Store.cells c.args.store.now)) (g.H.Host.means c.args.host.now) c.args.calls.now _ _ _ _ _ r.1;
       law = equal_counts;
       typed = admitted_runs_stay_typed;
@@ -25,7 +25,7 @@ pub returns-then-answers-calls : goal.returns-then-answers-calls
 returns-then-answers-calls g c =
     let few : length c.args.answers.now < length c.args.calls.now = omega arith in
     record {
-      value = by_answers c.args.table c.args.rows c.args.calls.now (g.S.Store.cells c.args.store.now) (g.H.Host.means c.args.host.now) c.args.answers.now c.in-ok-passed.passed c.in-ok-passed.ensures.value few;
+      value = by_answers c.args.table c.args.rows c.args.calls.now (g.S.Store.cells c.args.store.now) (g.H.Host.means c.args.host.now) c.args.answers.now c.in_ok-passed.passed c.in_ok-passed.ensures.value few;
       kept = tt;
       law = equal_counts;
       typed = admitted_runs_stay_typed;
@@ -38,7 +38,7 @@ pub returns-in-Err : goal.returns-in-Err
 returns-in-Err g c =
     let enough : length c.args.calls.now ≤ length c.args.answers.now = omega arith in
     record {
-      value = by_store c.args.table c.args.rows c.args.calls.now (g.S.Store.cells c.args.store.now) (g.H.Host.means c.args.host.now) c.args.answers.now c.in-ok-passed.passed _ _ c.in-ok-passed.ensures.value enough c.in-Err.ensures.value c.in-Err.ensures.after;
+      value = by_store c.args.table c.args.rows c.args.calls.now (g.S.Store.cells c.args.store.now) (g.H.Host.means c.args.host.now) c.args.answers.now c.in_ok-passed.passed _ _ c.in_ok-passed.ensures.value enough c.in-Err.ensures.value c.in-Err.ensures.after;
       kept = tt;
       law = equal_counts;
       typed = admitted_runs_stay_typed;
@@ -51,19 +51,19 @@ pub make_all-requires : goal.make_all-requires
 make_all-requires g c =
     let enough : length c.args.calls.now ≤ length c.args.answers.now = omega arith in
     record {
-      fits = fits c.args.table c.args.rows c.args.calls.now (g.S.Store.cells c.args.store.now) (g.H.Host.means c.args.host.now) c.args.answers.now c.in-ok-passed.passed c.in-Ok.begun _ c.in-ok-passed.ensures.value enough c.in-Ok.ensures.value c.in-Ok.ensures.after;
+      fits = fits c.args.table c.args.rows c.args.calls.now (g.S.Store.cells c.args.store.now) (g.H.Host.means c.args.host.now) c.args.answers.now c.in_ok-passed.passed c.in-Ok.begun _ c.in_ok-passed.ensures.value enough c.in-Ok.ensures.value c.in-Ok.ensures.after;
       room = enough;
     }
 
 pub returns : goal.returns
 returns g c =
     let enough : length c.args.calls.now ≤ length c.args.answers.now = omega arith in
-    let p = c.in-ok-passed.ensures.value in
+    let p = c.in_ok-passed.ensures.value in
     let b = c.in-Ok.ensures in
     let m = c.make_all.ensures in
     record {
-      value = by_all c.args.table c.args.rows c.args.calls.now (g.S.Store.cells c.args.store.now) (g.H.Host.means c.args.host.now) c.args.answers.now c.in-ok-passed.passed c.in-Ok.begun _ p enough b.value b.after _ _ _ _ m.value m.after m.same;
-      kept = by_promise c.args.table c.args.rows c.args.calls.now (g.S.Store.cells c.args.store.now) (g.H.Host.means c.args.host.now) c.args.answers.now c.in-ok-passed.passed c.in-Ok.begun _ p enough b.value b.after _ _ _ _ m.value m.after m.same;
+      value = by_all c.args.table c.args.rows c.args.calls.now (g.S.Store.cells c.args.store.now) (g.H.Host.means c.args.host.now) c.args.answers.now c.in_ok-passed.passed c.in-Ok.begun _ p enough b.value b.after _ _ _ _ m.value m.after m.same;
+      kept = by_promise c.args.table c.args.rows c.args.calls.now (g.S.Store.cells c.args.store.now) (g.H.Host.means c.args.host.now) c.args.answers.now c.in_ok-passed.passed c.in-Ok.begun _ p enough b.value b.after _ _ _ _ m.value m.after m.same;
       law = equal_counts;
       typed = admitted_runs_stay_typed;
       frames = open_frames_lead_to_place_0;

@@ -26,8 +26,8 @@ loop-i-preserved g c =
     let T = contents_of c.args.table in
     let s = at c.loop-i.regs (g.S.Store.cells c.loop-i.store) (g.H.Host.means c.loop-i.host) in
     let t = at c.step.new.regs (g.S.Store.cells c.step.new.store) (g.H.Host.means c.step.new.host) in
-    let d = made tt s t (step T s) c.in-default.ensures.value in
-    (sym (go_more T c.args.n c.loop-i.i s t c.loop-i-test.true d) ∙ c.loop-i.invariant.0, c.in-default.ensures.long ∙ c.loop-i.invariant.1, c.in-default.ensures.last ∙ c.loop-i.invariant.2)
+    let d = made tt s t (step T s) c.in_default.ensures.value in
+    (sym (go_more T c.args.n c.loop-i.i s t c.loop-i-test.true d) ∙ c.loop-i.invariant.0, c.in_default.ensures.long ∙ c.loop-i.invariant.1, c.in_default.ensures.last ∙ c.loop-i.invariant.2)
 
 pub returns : goal.returns
 returns g c =

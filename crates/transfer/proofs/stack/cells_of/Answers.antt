@@ -6,10 +6,10 @@ use Rattle.transfer.specs.Stacks.{cells_on}
 use Rattle.transfer.proofs.Stacking.{nth_none, cells_more, few_cells}
 use Rattle.transfer.proofs.stack.cells_of.Goals as goal
 
-pub returns-in-default : goal.returns-in-default
-returns-in-default c =
+pub returns-in_default : goal.returns-in_default
+returns-in_default c =
     let k = length_bottom_first c.args.stack.now in
-    let past = nth_none (bottom_first c.args.stack.now) c.loop-i.i (sym c.at.ensures ∙ c.in-default.is) in
+    let past = nth_none (bottom_first c.args.stack.now) c.loop-i.i (sym c.at.ensures ∙ c.in_default.is) in
     absurd (omega (arith, k, past, c.len-i-end.ensures))
 
 pub loop-i-preserved : goal.loop-i-preserved

@@ -1,6 +1,6 @@
 use Rattle.std.proofs.Common.{◌≡◌, ◌+◌, ◌≤◌, ◌∷◌, reverse, length, take, sym, refl, ap, ◌∙◌, arith, rules}
 use Rattle.std.proofs.lemmas.List.{take_all}
-use Rattle.pile.specs.Piles.{held, depth, room}
+use Rattle.pile.specs.Piles.{depth, room}
 use Rattle.pile.proofs.Stacks.{length_held}
 use Rattle.rows.specs.Rows.{entries}
 use Rattle.rows.proofs.Laws.{valid_len}
@@ -10,11 +10,11 @@ use Rattle.transfer.proofs.stack.load.Goals as goal
 pub loop-i-init : goal.loop-i-init
 loop-i-init c = (c.requires.empty, sym (length_held c.args.stack.now) ∙ ap length c.requires.empty, refl, refl)
 
-pub returns-in-default : goal.returns-in-default
-returns-in-default c =
+pub returns-in_default : goal.returns-in_default
+returns-in_default c =
     let w : length c.args.row.bytes ≡ 40 = search rules in
     let k = row_entries c.args.row w (valid_len c.args.row c.requires.row) in
-    let past = nth_none (entries c.args.row) c.loop-i.i (sym c.entry.ensures ∙ c.in-default.is) in
+    let past = nth_none (entries c.args.row) c.loop-i.i (sym c.entry.ensures ∙ c.in_default.is) in
     absurd (omega (arith, k, past, c.len-i-end.ensures))
 
 pub loop-i-preserved : goal.loop-i-preserved

@@ -21,7 +21,7 @@ returns-in-Err c =
 
 pub loop-left-preserved : goal.loop-left-preserved
 loop-left-preserved c =
-    let e = c.in-default.ensures in (
+    let e = c.in_default.ensures in (
       taken_next c.args.kinds.now c.loop-left.left Address (held c.loop-left.stack) (Some (held c.take_kind.new.stack)) _ c.loop-left-test.true c.loop-left.invariant.1 e.value
           c.loop-left.invariant.0,
       omega (arith, c.loop-left.invariant.1),

@@ -10,15 +10,15 @@ returns-then-n-gt40 c =
     let k : length (bottom_first c.args.stack.now) ≡ c.len-n.result = search rules in
     too_many (bottom_first c.args.stack.now) (omega (arith, k))
 
-pub returns-in-default : goal.returns-in-default
-returns-in-default c =
+pub returns-in_default : goal.returns-in_default
+returns-in_default c =
     let k : length (bottom_first c.args.stack.now) ≡ c.len-n.result = search rules in
-    absurd (nth_none (bottom_first c.args.stack.now) c.loop-i.i (sym c.at.ensures ∙ c.in-default.is) (omega (arith, k)))
+    absurd (nth_none (bottom_first c.args.stack.now) c.loop-i.i (sym c.at.ensures ∙ c.in_default.is) (omega (arith, k)))
 
-pub returns-in-default-packed_byte : goal.returns-in-default-packed_byte
-returns-in-default-packed_byte c =
+pub returns-in_default-packed_byte : goal.returns-in_default-packed_byte
+returns-in_default-packed_byte c =
     one_improper (bottom_first c.args.stack.now) c.loop-i.i c.in-Some.entry (sym c.at.ensures ∙ c.in-Some.is)
-    (byte_none c.in-Some.entry (sym c.packed_byte.ensures ∙ c.in-default-packed_byte.is)) c.loop-i.invariant.1
+    (byte_none c.in-Some.entry (sym c.packed_byte.ensures ∙ c.in_default-packed_byte.is)) c.loop-i.invariant.1
 
 pub loop-i-preserved : goal.loop-i-preserved
 loop-i-preserved c =

@@ -20,7 +20,12 @@ returns c =
     let from : c.args.self.now ≡ c.args.other.now → T c.eq.result = λ e. from-true _ (d.1 (ap (λ (r : Row). r.bytes) e)) in
     let la : length c.args.self.now.bytes ≡ 40 = search rules in
     let lb : length c.args.other.now.bytes ≡ 40 = search rules in
-    (to, from, λ va vb. equals_same c.args.self.now c.args.other.now c.eq.result la lb va vb (to, from))
+    record {
+      eq = search rules;
+      same = to;
+      equal = from;
+      stacks = λ va vb. equals_same c.args.self.now c.args.other.now c.eq.result la lb va vb (to, from);
+    }
 
 pub returns-then-self-other : goal.returns-then-self-other
 returns-then-self-other c =
@@ -28,4 +33,9 @@ returns-then-self-other c =
     let lb : length c.args.other.now.bytes ≡ 40 = search rules in
     let to : T false → c.args.self.now ≡ c.args.other.now = λ t. absurd t in
     let from : c.args.self.now ≡ c.args.other.now → T false = λ e. absurd (c.if-self-other.true (ap (λ (r : Row). r.len) e)) in
-    (to, from, λ va vb. equals_same c.args.self.now c.args.other.now false la lb va vb (to, from))
+    record {
+      eq = search rules;
+      same = to;
+      equal = from;
+      stacks = λ va vb. equals_same c.args.self.now c.args.other.now false la lb va vb (to, from);
+    }
