@@ -1,8 +1,8 @@
 -- What admitting means, from the path engine and the checks.
-use Rattle.std.proofs.Common.{◌≡◌, ℕ, zero, suc, ◌+◌, ◌-◌, ◌<◌, ◌≤◌, Bool, true, false, cond, ◌&&◌, eqb, ltb, leb, ◌⊎◌, ◌↔◌, List, [], ◌∷◌, map, length, get_or, Some, None, Ok, Err, Option, Result, sym, refl, ap, ◌∙◌, subst, inl, inr, arith}
+use Rattle.std.proofs.Common.{◌≡◌, ℕ, zero, suc, ◌+◌, ◌-◌, ◌<◌, ◌≤◌, Bool, true, false, cond, eqb, ltb, leb, List, [], ◌∷◌, map, length, get_or, Some, None, Ok, Err, Option, Result, refl, ap, ◌∙◌, subst, inl, inr, arith}
 use Rattle.std.specs.List.{slice_get}
 use Rattle.std.specs.Option.{option_or}
-use Rattle.std.proofs.lemmas.Bool.{le-leb, leb-true, eqb-true, eq-eqb, and_parts}
+use Rattle.std.proofs.lemmas.Bool.{le-leb, leb-true, eqb-true, and_parts}
 use Rattle.sheet.specs.declared.instruction.Instruction.{Instruction}
 use Rattle.sheet.specs.declared.procedure.Procedure.{Procedure}
 use Rattle.sheet.specs.Tables.{Contents}
@@ -10,7 +10,6 @@ use Rattle.rules.specs.declared.effects.Effect.{Effect}
 use Rattle.rules.specs.declared.effects.Gives.{Gives}
 use Rattle.rules.specs.declared.effects.Way.{Way}
 use Rattle.rules.specs.declared.effects.Way.TheVariants.{Halt, Next, Jump, Fork}
-use Rattle.rules.specs.declared.fault.TableFault.{TableFault}
 use Rattle.rules.specs.declared.fault.TableFault.TheVariants.{TooFewPlaces}
 use Rattle.rules.specs.EffectLaws.{SoundWay}
 use Rattle.rules.specs.Effects.{effect_of}
@@ -24,13 +23,12 @@ use Rattle.rules.proofs.ProcedureLaws.{table_is_checked}
 use Rattle.paths.specs.Admitted.{Apart, Fits, Admits, Suits}
 use Rattle.paths.specs.Admitting.{Fault, entry_at, entry_is, admit}
 use Rattle.paths.specs.Exact.{agree}
-use Rattle.paths.specs.Flows.{Hand, Transfer, breaks, hands_on, Met, keep, lower, clash, Inside, Lawful, Below}
-use Rattle.paths.specs.Judging.{judge, going}
+use Rattle.paths.specs.Flows.{Hand, hands_on, keep, lower, Lawful}
 use Rattle.paths.specs.Lists.{In, All, Distinct}
-use Rattle.paths.specs.Rows.{Rows, row_at, Held, Settled, Local}
+use Rattle.paths.specs.Rows.{Rows, row_at, Held, Local}
 use Rattle.paths.proofs.Admitting.{entries_apart, admit_exact}
 use Rattle.paths.proofs.Exact.{strict_law}
-use Rattle.paths.proofs.Lists.{all_in, all_of, all_map}
+use Rattle.paths.proofs.Lists.{all_in, all_map}
 use Rattle.paths.proofs.Passes.{judge_passes}
 use Rattle.rows.specs.declared.entry.Entry.TheVariants.{Value}
 use Rattle.transfer.specs.declared.breach.Breach.{Breach}
@@ -38,11 +36,10 @@ use Rattle.transfer.specs.declared.breach.Breach.TheVariants.{WrongStack, StackT
 use Rattle.transfer.specs.Stacks.{Stack, cells_on, less, more, parameters_down}
 use Rattle.transfer.specs.Transfer.{handed, has_next, stays, passed_on, goes, goes_from, transfer}
 use Rattle.judge.specs.declared.flaw.Flaw.{Flaw}
-use Rattle.judge.specs.declared.flaw.Flaw.TheVariants.{Broken, Differs, TooHigh}
+use Rattle.judge.specs.declared.flaw.Flaw.TheVariants.{Differs, TooHigh}
 use Rattle.judge.specs.Admission.{rows_fault, named, admitted}
 use Rattle.judge.specs.AdmissionLaws.{Begins, LocallyRight, AdmitAcceptsExactlyLocalRows, JudgeLeavesRowsThatAdmitAccepts}
 use Rattle.judge.specs.Flow.{same_stack, entry_of, as_step, step, stacks, fit}
-use Rattle.judge.specs.Judgement.{judged}
 use Rattle.judge.proofs.Inside.{inside, stacks_tell}
 use Rattle.judge.proofs.Laws.{first_none, unchecked, accepted}
 

@@ -1,5 +1,5 @@
 -- Rows counted, and the judgement over rows that are blank at first.
-use Rattle.std.proofs.Common.{◌≡◌, ℕ, zero, suc, ◌+◌, ◌-◌, ◌<◌, ◌≤◌, Bool, true, false, cond, List, [], ◌∷◌, ◌++◌, map, length, get_or, take, drop, replicate, Some, None, Ok, Err, Option, Result, sym, refl, ap, ◌∙◌, subst, arith}
+use Rattle.std.proofs.Common.{◌≡◌, ℕ, zero, suc, ◌+◌, ◌-◌, ◌<◌, ◌≤◌, true, false, List, ◌∷◌, ◌++◌, map, length, get_or, take, drop, replicate, Some, None, Ok, Err, Option, Result, sym, refl, ap, ◌∙◌, subst, arith}
 use mathlib.Core.List.{map-append}
 use borrow.Rule.Slice.PartMut.{post_of, Post-is}
 use Rattle.std.proofs.lemmas.List.{drop_more, drop-map, drop_at, take_at, length-append, length-map, length-replicate}
@@ -8,7 +8,7 @@ use Rattle.pile.proofs.Stacks.{blanked_whole}
 use Rattle.sheet.specs.Tables.{Contents}
 use Rattle.rules.specs.declared.fault.TableFault.{TableFault}
 use Rattle.rules.specs.Faults.{passed}
-use Rattle.paths.specs.Judging.{Progress, going, refused, enter, judge}
+use Rattle.paths.specs.Judging.{Progress, enter, judge}
 use Rattle.paths.specs.Rows.{Rows, count}
 use Rattle.paths.proofs.Counts.{count_skip, count_one}
 use Rattle.paths.proofs.Entering.{entry_loop}

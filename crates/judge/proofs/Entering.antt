@@ -1,5 +1,5 @@
 -- A procedure's parameters as a row, and what comes of its entry.
-use Rattle.std.proofs.Common.{◌≡◌, ℕ, ◌<◌, ◌≤◌, true, List, [], ◌∷◌, ◌++◌, map, reverse, length, get_or, take, drop, Some, None, sym, refl, ap, ◌∙◌, subst, arith}
+use Rattle.std.proofs.Common.{◌≡◌, ℕ, ◌<◌, ◌≤◌, true, List, [], ◌∷◌, ◌++◌, map, reverse, length, get_or, take, drop, Some, None, sym, refl, ap, ◌∙◌, arith}
 use mathlib.Core.List.{map-append, reverse-append}
 use Rattle.std.proofs.lemmas.List.{length-map, length-reverse, length-take}
 use Rattle.std.proofs.lemmas.Option.{slice_get-get_or}
@@ -18,7 +18,7 @@ use Rattle.rows.specs.declared.entry.Entry.TheVariants.{Value}
 use Rattle.rows.specs.declared.row.Row.{Row}
 use Rattle.rows.specs.Entries.{proper}
 use Rattle.rows.specs.Rows.{every, is_row, packed}
-use Rattle.transfer.specs.Stacks.{Stack, parameters_down}
+use Rattle.transfer.specs.Stacks.{Stack}
 use Rattle.transfer.specs.Transfer.{stack_of}
 use Rattle.transfer.proofs.Fitting.{packed_is, packs}
 use Rattle.judge.specs.declared.flaw.Flaw.{Flaw}

@@ -1,5 +1,5 @@
 -- One turn of the work list over rows as records is the path engine's.
-use Rattle.std.proofs.Common.{◌≡◌, ℕ, zero, suc, ◌+◌, ◌<◌, ◌≤◌, Bool, true, false, cond, List, [], ◌∷◌, length, get_or, Some, None, Ok, Err, Option, Result, sym, refl, ap, ◌∙◌, subst, inl, inr, arith}
+use Rattle.std.proofs.Common.{◌≡◌, ℕ, zero, suc, ◌+◌, ◌<◌, Bool, true, false, cond, List, [], ◌∷◌, length, get_or, Some, None, Ok, Err, Result, sym, refl, ap, ◌∙◌, subst, inl, inr, arith}
 use Rattle.std.proofs.lemmas.List.{length-map}
 use Rattle.sheet.specs.Tables.{Contents}
 use Rattle.rules.specs.Operands.{operand_fault, first_fault}
@@ -7,7 +7,7 @@ use Rattle.rules.specs.ProcedureLaws.{TableRule}
 use Rattle.rules.specs.Procedures.{table_fault}
 use Rattle.rules.proofs.EffectLaws.{neither_left}
 use Rattle.rules.proofs.ProcedureLaws.{table_is_checked}
-use Rattle.paths.specs.Flows.{Hand, breaks, hands_on}
+use Rattle.paths.specs.Flows.{breaks, hands_on}
 use Rattle.paths.specs.Invariants.{Cases}
 use Rattle.paths.specs.Judging.{going, refused, judge_by, judge_one, settle, weight}
 use Rattle.paths.specs.Lists.{All}

@@ -1,17 +1,14 @@
 -- Rows as records: what reading, writing and comparing one does to their meanings.
-use Rattle.std.proofs.Common.{◌≡◌, ℕ, zero, suc, ◌<◌, ◌≤◌, Bool, true, false, cond, ltb, ◌⊎◌, ◌↔◌, List, [], ◌∷◌, map, reverse, length, get_or, take, set, Some, None, Ok, Err, Option, Result, sym, refl, ap, ◌∙◌, subst, inl, inr, arith}
+use Rattle.std.proofs.Common.{◌≡◌, ℕ, ◌<◌, Bool, true, false, cond, ltb, List, [], ◌∷◌, map, reverse, length, get_or, take, set, Some, None, Ok, Err, Result, sym, refl, ap, ◌∙◌, arith}
 use Rattle.std.proofs.lemmas.Bool.{lt-ltb}
 use Rattle.pile.specs.declared.Full.{Full}
-use Rattle.std.specs.Str.{bytes_eq}
 use Rattle.std.proofs.lemmas.Slice.Eq.{bytes_eq-Decides}
 use Rattle.std.proofs.lemmas.List.{get_or-map, map-set, reverse-reverse}
-use Rattle.rows.specs.declared.entry.Entry.{Entry}
 use Rattle.rows.specs.declared.row.Row.{Row}
 use Rattle.rows.specs.Entries.{entry_of, byte_of}
 use Rattle.rows.specs.Rows.{entries, is_row, meaning, same}
 use Rattle.rows.proofs.Laws.{codes_entries}
-use Rattle.paths.specs.Rows.{Rows, row_at}
-use Rattle.transfer.specs.Stacks.{Stack}
+use Rattle.paths.specs.Rows.{row_at}
 use Rattle.transfer.specs.Transfer.{stack_of}
 use Rattle.judge.specs.Flow.{same_stack}
 use Rattle.paths.specs.Judging.{going, refused}

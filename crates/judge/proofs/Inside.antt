@@ -1,5 +1,5 @@
 -- In a checked table entries and successors lie in the table, and stacks are told apart.
-use Rattle.std.proofs.Common.{◌≡◌, ℕ, zero, suc, ◌+◌, ◌<◌, ◌≤◌, Bool, true, false, cond, ◌&&◌, eqb, ltb, leb, ◌⊎◌, ◌↔◌, List, [], ◌∷◌, map, length, Some, None, Ok, Err, Option, Result, sym, refl, ap, ◌∙◌, subst, inl, inr, arith}
+use Rattle.std.proofs.Common.{◌≡◌, ℕ, suc, ◌+◌, ◌<◌, Bool, true, false, cond, ◌&&◌, eqb, ltb, leb, List, [], ◌∷◌, map, length, Some, None, Ok, Err, Option, Result, refl, ap, ◌∙◌, subst, arith}
 use Rattle.std.specs.List.{slice_get}
 use Rattle.std.proofs.lemmas.Bool.{ltb-true, eqb-true, eq-eqb, and_parts}
 use Rattle.std.proofs.lemmas.Bool.Decides.{nat_tests}
@@ -17,11 +17,10 @@ use Rattle.rules.specs.EffectLaws.{SoundWay}
 use Rattle.rules.specs.Effects.{effect_of}
 use Rattle.rules.specs.Lookups.{owner, room_at}
 use Rattle.rules.specs.Operands.{first_fault}
-use Rattle.rules.specs.ProcedureLaws.{TableRule, ProcedureRule}
-use Rattle.rules.specs.Throughout.{HoldsThroughout}
+use Rattle.rules.specs.ProcedureLaws.{TableRule}
 use Rattle.rules.proofs.EffectLaws.{effects_are_sound}
 use Rattle.paths.specs.Lists.{All}
-use Rattle.paths.specs.Flows.{Hand, Transfer, breaks, hands_on, Inside}
+use Rattle.paths.specs.Flows.{Hand, hands_on, Inside}
 use Rattle.paths.specs.Exact.{Tells}
 use Rattle.rows.specs.declared.entry.Entry.{Entry}
 use Rattle.rows.specs.declared.entry.Entry.TheVariants.{Value, Mark}
@@ -29,7 +28,7 @@ use Rattle.transfer.specs.declared.breach.Breach.{Breach}
 use Rattle.transfer.specs.declared.breach.Breach.TheVariants.{WrongStack, StackTooHigh, PastTheEnd}
 use Rattle.transfer.specs.Stacks.{Stack, cells_on, less, more}
 use Rattle.transfer.specs.Transfer.{handed, has_next, stays, passed_on, goes, goes_from, transfer}
-use Rattle.judge.specs.Flow.{same_entry, same_stack, entry_of, as_step, step, stacks}
+use Rattle.judge.specs.Flow.{same_entry, same_stack, entry_of, as_step, stacks}
 
 abbrev Low : Contents → List (Hand Stack) → Type 0
 Low T hs = All (λ h. h.0 < length T.code) hs

@@ -1,5 +1,5 @@
 -- What judging means, from the path engine and the checks.
-use Rattle.std.proofs.Common.{◌≡◌, ℕ, ◌<◌, ◌≤◌, Bool, true, false, cond, ◌&&◌, leb, ◌⊎◌, ◌↔◌, List, map, length, Some, None, Ok, Err, Option, Result, sym, refl, ap, ◌∙◌, subst, inl, inr, arith}
+use Rattle.std.proofs.Common.{◌≡◌, ℕ, Bool, true, false, cond, ◌&&◌, leb, List, map, length, Some, None, Ok, Err, Option, Result, sym, refl, ap, ◌∙◌, subst, arith}
 use Rattle.std.specs.Option.{option_or}
 use Rattle.std.proofs.lemmas.Bool.{le-leb, leb-true, and_parts, and_from}
 use Rattle.sheet.specs.Tables.{Contents}
@@ -12,12 +12,11 @@ use Rattle.rules.specs.Procedures.{table_fault}
 use Rattle.rules.specs.Throughout.{HoldsThroughout}
 use Rattle.rules.proofs.OperandLaws.{operands_are_checked}
 use Rattle.rules.proofs.ProcedureLaws.{table_is_checked}
-use Rattle.paths.specs.Exact.{Exact, Accepts}
-use Rattle.paths.specs.Flows.{Hand}
+use Rattle.paths.specs.Exact.{Exact}
 use Rattle.paths.specs.Lists.{Exactly}
 use Rattle.paths.specs.Judging.{Progress, going, refused, judge}
-use Rattle.paths.specs.Paths.{PathTo, Reached, Clean, MetOnAPath}
-use Rattle.paths.specs.Rows.{Rows, row_at, count}
+use Rattle.paths.specs.Paths.{Reached}
+use Rattle.paths.specs.Rows.{Rows, count}
 use Rattle.paths.proofs.Exact.{strict_exact}
 use Rattle.transfer.specs.Stacks.{Stack}
 use Rattle.judge.specs.declared.flaw.Flaw.{Flaw}

@@ -1,9 +1,9 @@
 -- Handing on is the path engine's, and keeps the work list ready.
-use Rattle.std.proofs.Common.{◌≡◌, ℕ, ◌+◌, ◌<◌, Bool, true, false, cond, List, [], ◌∷◌, length, Some, None, Option, sym, refl, ap, ◌∙◌, subst, arith}
+use Rattle.std.proofs.Common.{◌≡◌, ℕ, ◌+◌, ◌<◌, Bool, true, false, cond, List, [], ◌∷◌, length, Some, None, Option, refl, ap, ◌∙◌, subst, arith}
 use Rattle.std.proofs.lemmas.List.{length-map}
 use Rattle.sheet.specs.Tables.{Contents}
 use Rattle.rules.specs.declared.effects.Way.{Way}
-use Rattle.rules.specs.declared.effects.Way.TheVariants.{Halt, Next, Jump, Fork}
+use Rattle.rules.specs.declared.effects.Way.TheVariants.{Next, Jump, Fork}
 use Rattle.paths.specs.Exact.{agree}
 use Rattle.paths.specs.Flows.{Hand}
 use Rattle.paths.specs.Invariants.{Cases}

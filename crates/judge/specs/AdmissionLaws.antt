@@ -4,7 +4,7 @@
 --     and hands its successors just their rows
 --   AdmitAcceptsExactlyLocalRows: given rows enough, admit accepts exactly these
 --   JudgeLeavesRowsThatAdmitAccepts: the rows of judge are such
-use Rattle.std.specs.Prelude.{◌≡◌, ℕ, ◌≤◌, ◌↔◌, List, map, length, Some, None, Ok, Err}
+use Rattle.std.specs.Prelude.{◌≡◌, ℕ, ◌≤◌, ◌↔◌, List, map, length, Some, None, Ok}
 use Rattle.std.specs.List.{slice_get}
 use Rattle.sheet.specs.declared.procedure.Procedure.{Procedure}
 use Rattle.sheet.specs.Tables.{Contents}

@@ -2,7 +2,6 @@
 use Rattle.std.specs.Prelude.{ℕ}
 use Rattle.rules.specs.declared.fault.TableFault.{TableFault}
 use Rattle.rules.specs.declared.fault.TableFault.TheVariants as fault
-use Rattle.transfer.specs.declared.breach.Breach.{Breach}
 use Rattle.transfer.specs.declared.breach.Breach.TheVariants.{WrongStack, StackTooHigh, PastTheEnd}
 use Rattle.judge.specs.declared.flaw.Flaw.{Flaw}
 use Rattle.judge.specs.declared.flaw.Flaw.TheVariants.{Broken, Differs, TooHigh}

@@ -6,7 +6,7 @@
 --   JudgeCountsWhatPathsReach: its answer is how many instructions some path reaches
 --   JudgeRefusesForCause: a refusal is that of the rules of tables, of too few places, of the rules of operands, in
 --     this order, or a flaw that is met on a path
-use Rattle.std.specs.Prelude.{◌≡◌, ℕ, ◌<◌, ◌≤◌, ◌⊎◌, ◌↔◌, length, Some, None, Ok, Err}
+use Rattle.std.specs.Prelude.{◌≡◌, ℕ, ◌≤◌, ◌↔◌, length, Some, Ok, Err}
 use Rattle.sheet.specs.Tables.{Contents}
 use Rattle.rules.specs.declared.fault.TableFault.{TableFault}
 use Rattle.rules.specs.declared.fault.TableFault.TheVariants.{TooFewPlaces}

@@ -6,10 +6,10 @@ use Rattle.admit.proofs.admit.Goals as goal
 
 pub returns-in_err-check_all : goal.returns-in_err-check_all
 returns-in_err-check_all c =
-    let v : c.from-residual.result ≡ admission c.args.table c.args.rows = search rules in
+    let v : c.from_residual.result ≡ admission c.args.table c.args.rows = search rules in
     record {
       value = v;
-      right = right c.args.table c.args.rows c.from-residual.result v;
+      right = right c.args.table c.args.rows c.from_residual.result v;
       passes = passes_exactly_right_rows;
       exact = admit_accepts_exactly_local_rows;
       judged = judge_leaves_rows_that_admit_accepts;

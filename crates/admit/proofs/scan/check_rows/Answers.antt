@@ -10,7 +10,7 @@ loop-i-init c = begins (contents_of c.args.table) c.requires.checked (meanings c
 
 pub returns-in_err-check_at : goal.returns-in_err-check_at
 returns-in_err-check_at c =
-    let r = err_from_is_err_and c.from-residual.result c.from-residual.ensures.1 in
+    let r = err_from_is_err_and c.from_residual.result c.from_residual.ensures.1 in
     r.1 ∙ ap Err r.2
     ∙ sym (row_refused (contents_of c.args.table) c.requires.checked c.args.rows.now c.requires.wide c.loop-i.i _ c.loop-i-test.true _ c.in_err-check_at.ensures)
     ∙ c.loop-i.invariant

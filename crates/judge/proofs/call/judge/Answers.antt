@@ -1,4 +1,4 @@
-use Rattle.std.proofs.Common.{◌≡◌, length, Err, refl, ap, ◌∙◌}
+use Rattle.std.proofs.Common.{length, Err, refl, ap, ◌∙◌}
 use Rattle.std.proofs.lemmas.Result.{err_from_is_err_and}
 use Rattle.rules.specs.Lookups.{contents_of}
 use Rattle.paths.specs.Judging.{judge}
@@ -11,7 +11,7 @@ use Rattle.judge.proofs.call.judge.Goals as goal
 pub returns-in_err-check : goal.returns-in_err-check
 returns-in_err-check c =
     let T = contents_of c.args.table in
-    let r = err_from_is_err_and c.from-residual.result c.from-residual.ensures.1 in
+    let r = err_from_is_err_and c.from_residual.result c.from_residual.ensures.1 in
     let e = c.in_err-check.ensures in
     record {
       value = r.1 ∙ ap Err r.2 ∙ early_answer T (length c.args.rows.now) (length c.args.places.now) c.in_err-check.field-0.0 e;

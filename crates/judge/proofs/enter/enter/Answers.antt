@@ -1,9 +1,9 @@
-use Rattle.std.proofs.Common.{◌≡◌, ℕ, ◌<◌, ◌≤◌, List, [], length, drop, sym, refl, ap, ◌∙◌, subst, arith}
+use Rattle.std.proofs.Common.{◌≡◌, ℕ, List, length, drop, sym, ap, ◌∙◌, subst, arith}
 use Rattle.std.proofs.lemmas.List.{length-map}
 use Rattle.pile.specs.Piles.{held, depth, places_of}
 use Rattle.pile.proofs.Stacks.{length_held}
 use Rattle.rules.specs.Lookups.{contents_of}
-use Rattle.paths.specs.Judging.{Progress, going}
+use Rattle.paths.specs.Judging.{Progress}
 use Rattle.paths.specs.Loops.{Ready}
 use Rattle.rows.specs.Rows.{meaning}
 use Rattle.transfer.specs.Stacks.{Stack}

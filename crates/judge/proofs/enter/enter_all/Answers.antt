@@ -1,4 +1,4 @@
-use Rattle.std.proofs.Common.{◌≡◌, ℕ, ◌+◌, ◌<◌, List, [], map, length, get_or, drop, Result, sym, refl, ap, ◌∙◌, subst, arith}
+use Rattle.std.proofs.Common.{◌≡◌, ℕ, ◌+◌, List, map, length, get_or, drop, Result, sym, refl, ap, ◌∙◌, subst, arith}
 use Rattle.std.proofs.lemmas.List.{length-map, drop_more, drop_all}
 use Rattle.std.proofs.lemmas.Result.{err_from_is_err_and}
 use Rattle.sheet.specs.declared.procedure.Procedure.{Procedure}
@@ -51,7 +51,7 @@ returns-in_err-enter c =
     let Ps = c.args.table.procedures.now in
     let i = c.loop-procedure.procedure-index in
     let q = c.in_err-enter.ensures in
-    let r = err_from_is_err_and c.from-residual.result c.from-residual.ensures.1 in
+    let r = err_from_is_err_and c.from_residual.result c.from_residual.ensures.1 in
     let l = c.loop-procedure.auto.rows in
     let m : length (meanings c.loop-procedure.rows) ≡ length c.loop-procedure.rows = length-map c.loop-procedure.rows meaning in
     let k = (procedure_keeps T c.requires.checked i c.loop-procedure-test.true).first_is_inside in

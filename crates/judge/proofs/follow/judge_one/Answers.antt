@@ -14,8 +14,8 @@ use Rattle.judge.proofs.follow.judge_one.Goals as goal
 pub offset_bounds-rows-i : goal.offset_bounds-rows-i
 offset_bounds-rows-i c = let h = (waiting_row c.args.rows.now c.args.i (held c.args.work.now) c.requires.ready).0 in search rules
 
-pub slice_copy_out·row : goal.slice_copy_out·row
-slice_copy_out·row c = (waiting_row c.args.rows.now c.args.i (held c.args.work.now) c.requires.ready).0
+pub slice_copy_out-row : goal.slice_copy_out-row
+slice_copy_out-row c = (waiting_row c.args.rows.now c.args.i (held c.args.work.now) c.requires.ready).0
 
 pub hand_on-requires : goal.hand_on-requires
 hand_on-requires c =

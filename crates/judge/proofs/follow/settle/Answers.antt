@@ -1,4 +1,4 @@
-use Rattle.std.proofs.Common.{◌≡◌, ℕ, List, [], ◌∷◌, length, drop, Result, sym, ap, ◌∙◌, subst, arith}
+use Rattle.std.proofs.Common.{◌≡◌, ℕ, [], length, drop, Result, sym, ap, ◌∙◌, subst, arith}
 use Rattle.std.proofs.lemmas.Result.{err_from_is_err_and}
 use Rattle.pile.specs.Piles.{held, places_of}
 use Rattle.pile.proofs.Stacks.{none_left}
@@ -41,7 +41,7 @@ pub returns-in_err-judge_one : goal.returns-in_err-judge_one
 returns-in_err-judge_one c =
     let p = c.in-Some.ensures in
     let q = c.in_err-judge_one.ensures in
-    let r = err_from_is_err_and c.from-residual.result c.from-residual.ensures.1 in
+    let r = err_from_is_err_and c.from_residual.result c.from_residual.ensures.1 in
     let l = c.loop-i.auto.rows in
     let wide : length c.loop-i.rows ≡ length c.args.table.code.now = l ∙ c.requires.wide in
     let out = turned_out (contents_of c.args.table) c.requires.checked c.loop-i.rows c.in-Some.i (held c.pop.new.self) q.after.0 q.after.1 wide q.after.2 in

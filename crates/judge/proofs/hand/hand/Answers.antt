@@ -27,7 +27,7 @@ pub returns-then-eq : goal.returns-then-eq
 returns-then-eq c = record {
   name = refl;
   after = kept c.args.rows.now (held c.args.work.now) c.args.j c.args.row c.requires.inside c.eq.result (sym c.if-not-is_reached.ensures)
-      (c.eq.ensures.2 (sym c.if-not-is_reached.ensures) c.requires.row) c.if-eq.true;
+      (c.eq.ensures.stacks (sym c.if-not-is_reached.ensures) c.requires.row) c.if-eq.true;
   room = refl;
   rest = refl;
 }
@@ -39,7 +39,7 @@ returns-else-eq c = record {
     Differs,
     c.args.j,
     clashed c.args.rows.now (held c.args.work.now) c.args.j c.args.row c.requires.inside c.eq.result (sym c.if-not-is_reached.ensures)
-        (c.eq.ensures.2 (sym c.if-not-is_reached.ensures) c.requires.row) c.if-eq.false,
+        (c.eq.ensures.stacks (sym c.if-not-is_reached.ensures) c.requires.row) c.if-eq.false,
     c.at.ensures,
   );
   room = refl;

@@ -17,9 +17,9 @@ returns-in_err-reached c =
     q.value q.procedures q.cells q.code in
     let same = c.table_in-table.ensures ∙ t.holds in
     let j = c.in_err-reached.ensures in
-    let r = err_from_is_err_and c.from-residual-in_err-reached.result c.from-residual-in_err-reached.ensures.1 in
+    let r = err_from_is_err_and c.from_residual-in_err-reached.result c.from_residual-in_err-reached.ensures.1 in
     record {
-      value = ready_is R t.table U e t.answer t.extent same (length c.args.rows.now) (length c.args.places.now) c.from-residual-in_err-reached.result (r.1 ∙ ap Err r.2 ∙ ap (ready e) j.value);
+      value = ready_is R t.table U e t.answer t.extent same (length c.args.rows.now) (length c.args.places.now) c.from_residual-in_err-reached.result (r.1 ∙ ap Err r.2 ∙ ap (ready e) j.value);
       procedures = q.procedures;
       cells = q.cells;
       code = q.code;

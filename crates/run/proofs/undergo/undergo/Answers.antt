@@ -10,7 +10,7 @@ use Rattle.run.proofs.undergo.undergo.Goals as goal
 
 pub returns-in_err-passed : goal.returns-in_err-passed
 returns-in_err-passed g c =
-    let r = err_from_is_err_and c.from-residual.result c.from-residual.ensures.1 in
+    let r = err_from_is_err_and c.from_residual.result c.from_residual.ensures.1 in
     record {
       value = by_table c.args.table c.args.rows c.args.calls.now (g.S.Store.cells c.args.store.now) (g.H.Host.means c.args.host.now) c.args.answers.now _ _ _ r.1 r.2 c.in_err-passed.ensures.value;
       kept = none_kept c.args.table c.args.rows.now (length (g.S.Store.cells c.args.store.now)) (g.H.Host.means c.args.host.now) c.args.calls.now _ _ _ _ _ r.1;
