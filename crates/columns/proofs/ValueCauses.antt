@@ -1,5 +1,5 @@
 -- Every refusal of a text of values has its cause.
-use Rattle.std.proofs.Common.{◌≡◌, ℕ, List, Some, None, Ok, Err, Option, refl}
+use Rattle.std.proofs.Common.{◌≡◌, ℕ, List, Some, None, Ok, Option, refl}
 use Rattle.columns.specs.declared.value_text.ValueScan.TheVariants.{Form, Range, Room}
 use Rattle.columns.specs.declared.fault.TextFault.TheVariants.{Malformed, Misplaced, TooLong}
 use Rattle.columns.specs.Faults.{refuse}

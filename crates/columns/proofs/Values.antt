@@ -1,5 +1,5 @@
 -- A value that is written is read back.
-use Rattle.std.proofs.Common.{◌≡◌, ℕ, suc, ◌+◌, ◌-◌, ◌^◌, ◌<◌, ◌≤◌, Bool, true, false, cond, T, eqb, ltb, List, [], ◌∷◌, ◌++◌, length, get_or, take, drop, replicate, ℤ, pos, negsuc, nat_abs, Some, None, Ok, Err, sym, refl, ap, ◌∙◌, subst, arith}
+use Rattle.std.proofs.Common.{◌≡◌, ℕ, suc, ◌+◌, ◌-◌, ◌^◌, ◌<◌, ◌≤◌, true, false, cond, T, List, [], ◌∷◌, ◌++◌, length, get_or, take, replicate, ℤ, pos, negsuc, nat_abs, Some, None, Ok, sym, refl, ap, ◌∙◌, subst, arith}
 use lib.Ieee.{Float, fits, binary64, to_bits, of_bits}
 use lib.Ieee.Bits.{of_bits-to_bits, to_bits-lt}
 use Rattle.std.specs.Float.{float_is_finite}
@@ -14,7 +14,7 @@ use Rattle.sheet.specs.declared.value.Value.{Value}
 use Rattle.sheet.specs.declared.value.Value.TheVariants.{Address, Boolean, Character, Integer, Real}
 use Rattle.sheet.specs.Kinds.{kind_of, letter_of}
 use Rattle.columns.specs.ValueLines.{value_of, read_value, write_value, number_of}
-use Rattle.columns.specs.ValueLaws.{TypedIn, WrittenValuesReadBack}
+use Rattle.columns.specs.ValueLaws.{WrittenValuesReadBack}
 
 -- 20 columns hold z
 width : (z : ℤ) → length (signed_decimal z) ≤ 20 → length (write_number 20 z) ≡ 20

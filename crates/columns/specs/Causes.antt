@@ -4,14 +4,14 @@
 --   FirstToFail: line n, from 1, is the first that fails it
 --   RefusedForCause: a refused table's text has the fault named at the line named, no line before has it, and no line
 --     of the whole text has a fault of a lower number; a text that is read has none
-use Rattle.std.specs.Prelude.{◌≡◌, ℕ, ◌+◌, ◌<◌, Bool, true, false, List, [], ◌∷◌, ◌++◌, length, Ok, Err, Result}
+use Rattle.std.specs.Prelude.{◌≡◌, ℕ, ◌+◌, Bool, true, false, List, [], ◌∷◌, ◌++◌, length, Ok, Err, Result}
 use Rattle.sheet.specs.Tables.{Contents}
 use Rattle.columns.specs.declared.fault.TextFault.{TextFault}
 use Rattle.columns.specs.declared.fault.TextFault.TheVariants.{Malformed, Misplaced, TooLong}
 use Rattle.columns.specs.declared.table_text.Extent.{Extent}
 use Rattle.columns.specs.declared.table_text.Scan.{Scan}
 use Rattle.columns.specs.declared.table_text.Scan.TheVariants.{Form, Order, Room}
-use Rattle.columns.specs.TableText.{Said, lines_of, counted, start, passes, read_table}
+use Rattle.columns.specs.TableText.{lines_of, counted, start, passes, read_table}
 
 abbrev pub tally : {C X : Type 0} → (C → X → C) → C → List X → C
 tally count c [] = c

@@ -5,7 +5,7 @@ use Rattle.sheet.specs.declared.kind.Kind.TheVariants.{Address, Boolean, Charact
 use Rattle.columns.specs.declared.letters.LineKind.{LineKind}
 use Rattle.columns.specs.declared.letters.LineKind.TheVariants.{Procedure, Cell, Code}
 use Rattle.columns.specs.declared.fault.LineFault.{LineFault}
-use Rattle.columns.specs.declared.fault.LineFault.TheVariants.{Malformed, OutOfRange}
+use Rattle.columns.specs.declared.fault.LineFault.TheVariants.{Malformed}
 use Rattle.columns.specs.Faults.{then}
 
 -- P, V, C

@@ -1,6 +1,6 @@
 -- The lines of a table's text. Cited by the line reader and by the reader of tables. Assumes nothing.
 --   read_line: what a line says by itself; every column is read before any number is held against its range
-use Rattle.std.specs.Prelude.{ℕ, ◌^◌, Bool, true, false, cond, List, [], ◌∷◌, length, take, drop, ℤ, pos, negsuc, Some, None, Ok, Err, Option, Result, ◌==◌, nat_lt, slice_index}
+use Rattle.std.specs.Prelude.{ℕ, ◌^◌, cond, List, [], ◌∷◌, length, take, drop, ℤ, pos, negsuc, Ok, Err, Result, ◌==◌, nat_lt, slice_index}
 use Rattle.std.specs.Int.Signed.{mag}
 use Rattle.std.specs.Option.{ok_or}
 use Rattle.numerals.specs.Numbers.{read_column}

@@ -3,7 +3,7 @@
 --   passes: the test of each scan, in the order of the refusals 11, 12, 13
 --   contents: the three lists that the lines make
 --   read_table: the first line at fault under the lowest number, or the three lists
-use Rattle.std.specs.Prelude.{ℕ, ◌+◌, Bool, true, false, cond, ◌&&◌, List, [], ◌∷◌, map, length, Ok, Err, Option, Result, ◌==◌, nat_lt}
+use Rattle.std.specs.Prelude.{ℕ, ◌+◌, Bool, true, false, ◌&&◌, List, [], ◌∷◌, map, length, Ok, Err, Option, Result, ◌==◌, nat_lt}
 use Rattle.numerals.specs.Lines.{lines}
 use Rattle.sheet.specs.declared.kind.Kind.{Kind}
 use Rattle.sheet.specs.declared.procedure.Procedure.{Procedure}

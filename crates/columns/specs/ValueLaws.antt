@@ -1,5 +1,5 @@
 -- What ties reading a value to writing it. Cited by both. Assumes nothing.
-use Rattle.std.specs.Prelude.{◌≡◌, ◌^◌, ◌<◌, true, Ok, Err}
+use Rattle.std.specs.Prelude.{◌≡◌, ◌^◌, ◌<◌, true, Ok}
 use Rattle.std.specs.Int.Signed.{mag}
 use Rattle.std.specs.Float.Ieee.{fits}
 use Rattle.std.specs.Float.{float_is_finite, binary64}

@@ -2,7 +2,7 @@
 --   values_of: what each line of a text says by itself
 --   value_passes: the test of each scan, in the order of the refusals 11, 12, 13
 --   read_values: the first line at fault under the lowest number, or the values
-use Rattle.std.specs.Prelude.{ℕ, ◌+◌, Bool, true, false, List, [], ◌∷◌, map, length, is_ok, Ok, Err, Option, Result, nat_lt, slice_set}
+use Rattle.std.specs.Prelude.{ℕ, ◌+◌, Bool, List, [], ◌∷◌, map, length, is_ok, Ok, Err, Option, Result, nat_lt, slice_set}
 use Rattle.numerals.specs.Lines.{lines}
 use Rattle.sheet.specs.declared.value.Value.{Value}
 use Rattle.columns.specs.declared.fault.LineFault.{LineFault}

@@ -1,5 +1,5 @@
 -- What ties the reader of columns to the writer, cited by both. Assumes nothing.
-use Rattle.std.specs.Prelude.{◌≡◌, ℕ, ◌^◌, ◌<◌, List, length, ℤ, Some, None, unsigned_abs}
+use Rattle.std.specs.Prelude.{◌≡◌, ℕ, ◌^◌, ◌<◌, List, length, ℤ, Some, unsigned_abs}
 use Rattle.numerals.specs.Numbers.{read_number, write_number}
 
 -- what is written is read as the number that it was

@@ -3,7 +3,7 @@
 --   read_number: the number that a list of columns holds, if it holds one
 --   read_column: the same of at most 20 columns, the widest that any line has
 --   write_number: a number in k columns
-use Rattle.std.specs.Prelude.{ℕ, zero, suc, ◌+◌, ◌-◌, ◌*◌, Bool, true, false, cond, ◌&&◌, List, [], ◌∷◌, ◌++◌, length, replicate, ℤ, pos, negsuc, Some, None, Option, ◌==◌, nat_le}
+use Rattle.std.specs.Prelude.{ℕ, zero, suc, ◌+◌, ◌-◌, ◌*◌, Bool, cond, ◌&&◌, List, [], ◌∷◌, ◌++◌, length, replicate, ℤ, pos, negsuc, Some, None, Option, ◌==◌, nat_le}
 use Rattle.std.specs.Fmt.{signed_decimal}
 
 abbrev pub digit : ℕ → Bool

@@ -1,4 +1,4 @@
-use Rattle.std.proofs.Common.{arith, rules}
+use Rattle.std.proofs.Common.{rules}
 use Rattle.numerals.proofs.Splits.{line_ended, line_open}
 use Rattle.numerals.proofs.lines.line_length.Goals as goal
 

@@ -1,5 +1,4 @@
-use Rattle.std.proofs.Common.{◌≡◌, ◌<◌, [], ◌++◌, length, sym, ap, ◌∙◌, arith, rules}
-use Rattle.std.proofs.lemmas.List.{nil_from_length}
+use Rattle.std.proofs.Common.{◌≡◌, length, arith, rules}
 use Rattle.numerals.proofs.Splits.{doubled}
 use Rattle.numerals.proofs.lines.split_line.Goals as goal
 

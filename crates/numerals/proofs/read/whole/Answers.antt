@@ -1,4 +1,4 @@
-use Rattle.std.proofs.Common.{arith, rules}
+use Rattle.std.proofs.Common.{rules}
 use Rattle.numerals.proofs.Reading.{whole_minus}
 use Rattle.numerals.proofs.read.whole.Goals as goal
 

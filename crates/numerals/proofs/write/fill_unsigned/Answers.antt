@@ -1,4 +1,4 @@
-use Rattle.std.proofs.Common.{arith, rules}
+use Rattle.std.proofs.Common.{rules}
 use Rattle.numerals.proofs.Writing.{justified}
 use Rattle.numerals.proofs.write.fill_unsigned.Goals as goal
 
