@@ -1,4 +1,3 @@
-use Rattle.std.proofs.Common.{◌≡◌, length, take, ap, ◌∙◌, arith}
 use Rattle.prepare.proofs.Reading.{take_front}
 use Rattle.prepare.proofs.prepare.front.Goals as goal
 

@@ -1,4 +1,4 @@
-use Rattle.std.proofs.Common.{◌≡◌, length, Ok, Err, sym, ap, ◌∙◌}
+use Rattle.std.proofs.Common.{length, Ok, Err, ap, ◌∙◌}
 use Rattle.std.proofs.lemmas.Result.{err_from_is_err_and}
 use Rattle.columns.specs.TableText.{read_table, room_of}
 use Rattle.rules.specs.Lookups.{contents_of}
