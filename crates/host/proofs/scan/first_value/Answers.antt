@@ -16,7 +16,7 @@ loop-at-preserved c =
     let text = c.args.text.now in
     let line = c.line_at-line.result.now in
     c.loop-at.invariant ∙ first_untold (drop c.loop-at.at text) line (drop (c.loop-at.at + length line) text)
-    c.line_at-line.ensures.first (sym c.in-default.is ∙ c.value_in.ensures)
+    c.line_at-line.ensures.first (sym c.in_default.is ∙ c.value_in.ensures)
 
 pub returns : goal.returns
 returns c = c.loop-at.invariant ∙ ap values_in (drop_all c.loop-at.at c.args.text.now (omega arith))
