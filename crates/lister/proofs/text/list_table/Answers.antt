@@ -7,11 +7,11 @@ pub returns : goal.returns
 returns c =
     let e =
     verdict_by_lines c.args.text.now c.end_line-verdict.result c.line_count-lines.result
-    c.deref-mut.result.now c.deref-mut-2.result.now c.deref-mut-3.result.now c.read_table-answer.result
+    c.deref_mut.result.now c.deref_mut-2.result.now c.deref_mut-3.result.now c.read_table-answer.result
     c.line_count-lines.ensures
-    (c.deref-mut.ensures.len ∙ c.in_ok-procedures.ensures.len)
-    (c.deref-mut-2.ensures.len ∙ c.in_ok-cells.ensures.len)
-    (c.deref-mut-3.ensures.len ∙ c.in_ok-code.ensures.len)
+    (c.deref_mut.ensures.len ∙ c.in_ok-procedures.ensures.len)
+    (c.deref_mut-2.ensures.len ∙ c.in_ok-cells.ensures.len)
+    (c.deref_mut-3.ensures.len ∙ c.in_ok-code.ensures.len)
     c.read_table-answer.ensures.value c.end_line-verdict.ensures
     in
     let P : List ℕ → Type 0 = λ v. IfOk c.ended.result (λ out. EndsIn v (vec_items out)) in
