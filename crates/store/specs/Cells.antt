@@ -4,7 +4,7 @@
 --   found: cell x of the list; past its end it is refused
 --   put_answer, put: what a write of cell x answers and leaves
 --   peek: cell x, a free one past the end
-use Rattle.std.specs.Prelude.{ℕ, Bool, cond, List, map, length, Some, None, Ok, Err, Option, Result, nat_lt, slice_set}
+use Rattle.std.specs.Prelude.{ℕ, cond, List, map, length, Some, None, Ok, Err, Option, Result, nat_lt, slice_set}
 use Rattle.std.specs.List.{slice_get}
 use Rattle.sheet.specs.Kinds.{is_value}
 use Rattle.store.specs.declared.cell.Cell.{Cell}
