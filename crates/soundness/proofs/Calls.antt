@@ -2,7 +2,6 @@
 use Rattle.std.proofs.Common.{◌≡◌, ℕ, suc, ◌+◌, ◌-◌, ◌<◌, ◌≤◌, Bool, true, false, not, ◌&&◌, eqb, ltb, leb, List, [], ◌∷◌, ◌++◌, length, ℤ, pos, Some, None, Ok, Option, sym, refl, ap, ◌∙◌, subst, inl, inr, arith, length-append}
 use Rattle.sheet.specs.declared.kind.Kind.{Kind}
 use Rattle.sheet.specs.declared.stop.Stop.TheVariants.{StoreFull, WrongCell, WrongMark}
-use Rattle.sheet.specs.declared.value.Value.{Value}
 use Rattle.sheet.specs.Tables.{Contents}
 use Rattle.arith.specs.Answers.{Answer, ◌>>◌}
 use Rattle.rules.specs.Lookups.{procedure_at, owner}
@@ -12,7 +11,7 @@ use Rattle.store.specs.declared.cell.Cell.{Cell}
 use Rattle.store.specs.declared.cell.Cell.TheVariants.{Mark, Working, Blank}
 use Rattle.store.specs.Cells.{put, peek}
 use Rattle.machine.specs.declared.operation.Operation.TheVariants.{Cup}
-use Rattle.machine.specs.Frames.{place, settle, clear, result_cell, enter, marked, call_at, back, return_value, return_plain}
+use Rattle.machine.specs.Frames.{settle, clear, result_cell, enter, marked, call_at, back, return_value, return_plain}
 use Rattle.machine.specs.Leaves.{mark_in, place_in, held}
 use Rattle.machine.specs.States.{State, code_at, regs_at}
 use Rattle.machine.specs.Steps.{cup}

@@ -8,7 +8,6 @@ use Rattle.sheet.specs.declared.kind.Kind.{Kind}
 use Rattle.sheet.specs.declared.kind.Kind.TheVariants as k
 use Rattle.sheet.specs.declared.mnemonic.Mnemonic.{Mnemonic}
 use Rattle.sheet.specs.declared.mnemonic.Mnemonic.TheVariants as m
-use Rattle.sheet.specs.declared.operation.Arithmetic.{Arithmetic}
 use Rattle.sheet.specs.declared.operation.Arithmetic.TheVariants.{Add, Sub, Mul, Div}
 use Rattle.sheet.specs.declared.operation.Binary.{Binary}
 use Rattle.sheet.specs.declared.operation.Binary.TheVariants as b2

@@ -14,10 +14,10 @@ use Rattle.rules.specs.Lookups.{ancestor, owner}
 use Rattle.rows.specs.declared.entry.Entry.TheVariants as entry
 use Rattle.transfer.specs.Stacks.{Stack, cells_on}
 use Rattle.store.specs.declared.cell.Cell.{Cell}
-use Rattle.store.specs.declared.cell.Cell.TheVariants.{Mark, Working, Data}
+use Rattle.store.specs.declared.cell.Cell.TheVariants.{Working, Data}
 use Rattle.store.specs.Cells.{put, peek}
 use Rattle.host.specs.Hosts.{Meaning, next_value, taken, written}
-use Rattle.machine.specs.Frames.{place, marks}
+use Rattle.machine.specs.Frames.{marks}
 use Rattle.machine.specs.Leaves.{held, stacked, typed, base, reached, load, store}
 use Rattle.machine.specs.States.{State, code_at, regs_at, dropped, with_cell, pushed}
 use Rattle.machine.specs.Steps.{two, one, ldc, dpl, lod, str, lda, ind, sto, ujp, fjp, inp, out, mst}

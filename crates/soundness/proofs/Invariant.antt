@@ -1,7 +1,6 @@
 -- The invariant of a run: its open frames as a chain, each over its caller, and the sorts of all cells up to SP.
 use Rattle.std.proofs.Common.{◌≡◌, ℕ, zero, suc, ◌+◌, ◌<◌, ◌≤◌, Bool, true, false, cond, not, eqb, ◌⊎◌, List, [], ◌∷◌, ◌++◌, length, ℤ, pos, Some, None, Ok, Err, Option, Result}
 use Rattle.sheet.specs.declared.kind.Kind.{Kind}
-use Rattle.sheet.specs.declared.value.Value.{Value}
 use Rattle.sheet.specs.Kinds.{kind_of, is_value}
 use Rattle.sheet.specs.Stops.{stop_number}
 use Rattle.sheet.specs.Tables.{Contents}
@@ -16,7 +15,6 @@ use Rattle.host.specs.Hosts.{Meaning}
 use Rattle.machine.specs.declared.ending.Ending.{Ending}
 use Rattle.machine.specs.declared.operation.Operation.TheVariants.{Cup}
 use Rattle.machine.specs.Endings.{ending_number}
-use Rattle.machine.specs.Frames.{place}
 use Rattle.machine.specs.Leaves.{link}
 use Rattle.machine.specs.Runs.{begun}
 use Rattle.machine.specs.States.{State, code_at}

@@ -2,7 +2,6 @@
 use Rattle.std.proofs.Common.{◌≡◌, ℕ, ◌+◌, ◌<◌, ◌≤◌, List, [], ◌∷◌, ◌++◌, length, Ok, sym, refl, ap, ◌∙◌, subst, arith, length-append}
 use Rattle.sheet.specs.declared.kind.Kind.{Kind}
 use Rattle.sheet.specs.declared.stop.Stop.TheVariants.{WrongCell}
-use Rattle.sheet.specs.declared.value.Value.{Value}
 use Rattle.rows.specs.declared.entry.Entry.TheVariants as entry
 use Rattle.transfer.specs.Stacks.{Stack}
 use Rattle.store.specs.declared.cell.Cell.{Cell}

@@ -3,7 +3,6 @@ use Rattle.std.proofs.Common.{◌≡◌, ℕ, ◌+◌, ◌-◌, ◌<◌, Bool, t
 use lib.ListN.{length-map}
 use Rattle.sheet.specs.declared.kind.Kind.{Kind}
 use Rattle.sheet.specs.declared.place.CodePlace.{CodePlace}
-use Rattle.sheet.specs.declared.value.Value.{Value}
 use Rattle.sheet.specs.Kinds.{kind_of, is_value}
 use Rattle.sheet.specs.Tables.{Contents}
 use Rattle.rules.specs.Lookups.{procedure_at, owner}

@@ -5,13 +5,11 @@ use Rattle.sheet.specs.declared.kind.Kind.{Kind}
 use Rattle.sheet.specs.declared.kind.Kind.TheVariants as k
 use Rattle.sheet.specs.declared.operation.Binary.{Binary}
 use Rattle.sheet.specs.declared.operation.Unary.{Unary}
-use Rattle.sheet.specs.declared.value.Value.{Value}
 use Rattle.sheet.specs.Kinds.{kind_of, is_value}
 use Rattle.sheet.specs.Tables.{Contents}
 use Rattle.rules.specs.Lookups.{procedure_at, ancestor, owner, room_of}
 use Rattle.rows.specs.declared.entry.Entry.TheVariants as entry
 use Rattle.transfer.specs.Stacks.{Stack, cells_on, less}
-use Rattle.store.specs.declared.cell.Cell.TheVariants.{Mark}
 use Rattle.machine.specs.declared.operation.Operation.{Operation}
 use Rattle.machine.specs.declared.operation.Operation.TheVariants.{Two, One, Ldc, Dpl, Ldo, Sro, Lod, Str, Lda, Ind, Sto, Ujp, Fjp, In, Out, Mst, Cup, Ent, Retf, Retp, Hlt}
 use Rattle.machine.specs.States.{code_at}

@@ -7,7 +7,7 @@ use Rattle.machine.specs.Runs.{Went, go_on, go}
 use Rattle.machine.specs.States.{State}
 use Rattle.machine.specs.Steps.{step}
 use Rattle.soundness.specs.Frames.{Rows}
-use Rattle.soundness.specs.Runs.{Call, goes, looks, reports, in_reach, count, left, total, StaysTyped, CallsLeaveWhatOneGoLeaves, EqualTotalsLeaveEqualStates}
+use Rattle.soundness.specs.Runs.{Call, goes, looks, reports, in_reach, left, total, StaysTyped, CallsLeaveWhatOneGoLeaves, EqualTotalsLeaveEqualStates}
 use Rattle.soundness.proofs.Rules.{Ruled}
 use Rattle.soundness.proofs.Invariant.{Sound, EndsWell}
 use Rattle.soundness.proofs.Steps.{keeps}

@@ -2,18 +2,15 @@
 use Rattle.std.proofs.Common.{◌≡◌, ℕ, zero, suc, ◌+◌, ◌≤◌, Bool, true, false, List, [], ◌∷◌, ◌++◌, length, Some, None, Ok, Option, sym, refl, ap, subst, inl, inr, arith}
 use Rattle.std.specs.List.{slice_get}
 use Rattle.sheet.specs.declared.kind.Kind.{Kind}
-use Rattle.sheet.specs.declared.value.Value.{Value}
 use Rattle.sheet.specs.Tables.{Contents}
 use Rattle.rules.specs.Lookups.{ancestor}
 use Rattle.rows.specs.declared.entry.Entry.TheVariants as entry
 use Rattle.transfer.specs.Stacks.{Stack, cells_on}
-use Rattle.store.specs.declared.cell.Cell.TheVariants.{Mark}
 use Rattle.store.specs.Cells.{peek}
-use Rattle.machine.specs.Frames.{place}
 use Rattle.machine.specs.Leaves.{base}
 use Rattle.machine.specs.States.{State}
 use Rattle.soundness.specs.Frames.{Rows}
-use Rattle.soundness.proofs.Rules.{Declaration, declaration, laid, num, Declared}
+use Rattle.soundness.proofs.Rules.{Declaration, declaration, laid, Declared}
 use Rattle.soundness.proofs.Invariant.{Sort, is_at, is_data, Stands, Frame, Frames, ground, over, place_of, ep_of, procedure_of, up, Under, row_sorts, result_sort, data_sorts, foot, links, deck, shape, Good}
 use Rattle.soundness.proofs.Cells.{Real, Filled, At, stands_at, placed_is, ltb_yes}
 

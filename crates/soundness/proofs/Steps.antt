@@ -12,7 +12,7 @@ use Rattle.machine.specs.declared.ending.Ending.{Ending}
 use Rattle.machine.specs.declared.operation.Operation.{Operation}
 use Rattle.machine.specs.declared.operation.Operation.TheVariants.{Two, One, Ldc, Dpl, Ldo, Sro, Lod, Str, Lda, Ind, Sto, Ujp, Fjp, In, Out, Mst, Cup, Ent, Retf, Retp, Hlt}
 use Rattle.machine.specs.Endings.{stopping}
-use Rattle.machine.specs.Frames.{place, enter, return_value}
+use Rattle.machine.specs.Frames.{enter, return_value}
 use Rattle.machine.specs.Runs.{begun_cells}
 use Rattle.machine.specs.States.{State, code_at}
 use Rattle.machine.specs.Steps.{ujp, perform, fetched, step_by, step}
