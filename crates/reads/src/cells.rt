@@ -14,7 +14,7 @@ use store::store::Store;
 
 // Cell x, a free one past the end.
 pub fn cell_at<S: Store>(store: &S, x: u32) -> Cell
-    ensures { result ≡ peek (cells store.now) x }
+    ensures { result ≡ peek (S.cells store.now) x }
 {
     match store.read(Slot(x)) {
         Ok(cell) => cell,
@@ -100,7 +100,7 @@ pub fn writable(absent: Stop, other: Stop, kind: Kind, cell: Cell) -> Result<(),
 
 // The working value i cells below the top.
 pub fn stacked_at<S: Store>(store: &S, height: u32, i: u32) -> Result<Value, Stop>
-    ensures { result ≡ stacked height i (cells store.now) }
+    ensures { result ≡ stacked height i (S.cells store.now) }
 {
     if i >= height {
         return Err(Stop::WrongCell);
@@ -109,7 +109,7 @@ pub fn stacked_at<S: Store>(store: &S, height: u32, i: u32) -> Result<Value, Sto
 }
 
 pub fn typed_at<S: Store>(store: &S, kind: Kind, height: u32, i: u32) -> Result<Value, Stop>
-    ensures { result ≡ typed kind height i (cells store.now) }
+    ensures { result ≡ typed kind height i (S.cells store.now) }
 {
     let x = stacked_at(store, height, i)?;
     of_kind(Stop::WrongCell, kind, x)

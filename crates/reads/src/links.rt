@@ -8,7 +8,7 @@ use store::store::Store;
 
 // The static link of the frame at x; a link leads below MP.
 fn link_of<S: Store>(store: &S, x: u16, mp: u16) -> Result<u16, Stop>
-    ensures { result ≡ static_link x mp (cells store.now) }
+    ensures { result ≡ static_link x mp (S.cells store.now) }
 {
     let y = place_in(cell_at(store, u32::from(x) + 1))?;
     if y >= u32::from(mp) {
@@ -19,7 +19,7 @@ fn link_of<S: Store>(store: &S, x: u16, mp: u16) -> Result<u16, Stop>
 
 // The frame that many static links up from MP.
 pub fn base_of<S: Store>(store: &S, links: u16, mp: u16) -> Result<u16, Stop>
-    ensures { result ≡ base links mp mp (cells store.now) }
+    ensures { result ≡ base links mp mp (S.cells store.now) }
 {
     let mut x = mp;
     for i in 0..links {

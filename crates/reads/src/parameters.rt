@@ -14,7 +14,7 @@ use store::store::Store;
 
 // The cell at x is a working cell of this kind.
 fn parameter_at<S: Store>(store: &S, kind: Kind, x: u32) -> Result<Value, Stop>
-    ensures { result ≡ passes kind x (cells store.now) }
+    ensures { result ≡ passes kind x (S.cells store.now) }
 {
     of_kind(Stop::WrongCell, kind, working_in(cell_at(store, x))?)
 }
@@ -22,7 +22,7 @@ fn parameter_at<S: Store>(store: &S, kind: Kind, x: u32) -> Result<Value, Stop>
 // The cells from x up are working cells of these kinds.
 fn walk<S: Store>(store: &S, kinds: &[Kind], x: u32) -> Result<(), Stop>
     requires room { x + length kinds.now < 2 ^ 32 }
-    ensures { result ≡ passed_from kinds.now x (cells store.now) }
+    ensures { result ≡ passed_from kinds.now x (S.cells store.now) }
 {
     let mut place = x;
     for kind in kinds {
@@ -41,7 +41,7 @@ pub fn passed<S: Store>(
     m: u16,
     store: &S,
 ) -> Result<(), Stop>
-    ensures { result ≡ passed_from (parameter_kinds (contents_of table.entry) procedure) (m + 5) (cells store.now) }
+    ensures { result ≡ passed_from (parameter_kinds (contents_of table.entry) procedure) (m + 5) (S.cells store.now) }
 {
     walk(store, parameter_kinds(table, procedure), u32::from(m) + 5)
 }

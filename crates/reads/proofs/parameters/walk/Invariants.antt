@@ -1,4 +1,4 @@
-use Rattle.std.proofs.Common.{◌≡◌, ◌+◌, ◌-◌, drop}
+use Rattle.std.proofs.Common.{◌≡◌, ◌+◌, drop}
 use Rattle.machine.specs.Frames.{passed}
 use Rattle.reads.proofs.parameters.walk.Given as goal
 
