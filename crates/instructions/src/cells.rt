@@ -24,7 +24,7 @@ pub(crate) fn load<S: Store>(
     regs: &mut Registers,
     store: &mut S,
 ) -> Result<(), Stop>
-    ensures { (h : Meaning) → gives result (at regs.new (cells store.new) h) ≡ by (load next kind x) (at regs.old (cells store.old) h) }
+    ensures { (h : Meaning) → gives result (at regs.new (S.cells store.new) h) ≡ by (load next kind x) (at regs.old (S.cells store.old) h) }
 {
     let value = held_in(Stop::WrongCell, Stop::WrongCell, kind, cell_at(store, x))?;
     push(value, 0, next, regs, store)
@@ -38,7 +38,7 @@ pub(crate) fn store_at<S: Store>(
     regs: &mut Registers,
     store: &mut S,
 ) -> Result<(), Stop>
-    ensures { (h : Meaning) → gives result (at regs.new (cells store.new) h) ≡ by (stores next kind x) (at regs.old (cells store.old) h) }
+    ensures { (h : Meaning) → gives result (at regs.new (S.cells store.new) h) ≡ by (stores next kind x) (at regs.old (S.cells store.old) h) }
 {
     let value = typed_at(store, kind, regs.height, 0)?;
     writable(Stop::WrongCell, Stop::WrongCell, kind, cell_at(store, x))?;
@@ -55,7 +55,7 @@ pub fn ldo<S: Store>(
     regs: &mut Registers,
     store: &mut S,
 ) -> Result<(), Stop>
-    ensures { (h : Meaning) → gives result (at regs.new (cells store.new) h) ≡ by (load next kind offset) (at regs.old (cells store.old) h) }
+    ensures { (h : Meaning) → gives result (at regs.new (S.cells store.new) h) ≡ by (load next kind offset) (at regs.old (S.cells store.old) h) }
 {
     load(kind, u32::from(offset), next, regs, store)
 }
@@ -67,7 +67,7 @@ pub fn sro<S: Store>(
     regs: &mut Registers,
     store: &mut S,
 ) -> Result<(), Stop>
-    ensures { (h : Meaning) → gives result (at regs.new (cells store.new) h) ≡ by (stores next kind offset) (at regs.old (cells store.old) h) }
+    ensures { (h : Meaning) → gives result (at regs.new (S.cells store.new) h) ≡ by (stores next kind offset) (at regs.old (S.cells store.old) h) }
 {
     store_at(kind, u32::from(offset), next, regs, store)
 }
@@ -78,7 +78,7 @@ pub fn ind<S: Store>(
     regs: &mut Registers,
     store: &mut S,
 ) -> Result<(), Stop>
-    ensures { (h : Meaning) → gives result (at regs.new (cells store.new) h) ≡ by (step.ind kind next) (at regs.old (cells store.old) h) }
+    ensures { (h : Meaning) → gives result (at regs.new (S.cells store.new) h) ≡ by (step.ind kind next) (at regs.old (S.cells store.old) h) }
 {
     let address = address_in(stacked_at(store, regs.height, 0)?)?;
     let x = reached(address, regs.height)?;
@@ -97,7 +97,7 @@ pub fn sto<S: Store>(
     regs: &mut Registers,
     store: &mut S,
 ) -> Result<(), Stop>
-    ensures { (h : Meaning) → gives result (at regs.new (cells store.new) h) ≡ by (step.sto kind next) (at regs.old (cells store.old) h) }
+    ensures { (h : Meaning) → gives result (at regs.new (S.cells store.new) h) ≡ by (step.sto kind next) (at regs.old (S.cells store.old) h) }
 {
     let value = typed_at(store, kind, regs.height, 0)?;
     let address = address_in(stacked_at(store, regs.height, 1)?)?;

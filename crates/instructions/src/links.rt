@@ -23,7 +23,7 @@ pub fn lod<S: Store>(
     regs: &mut Registers,
     store: &mut S,
 ) -> Result<(), Stop>
-    ensures { (h : Meaning) → gives result (at regs.new (cells store.new) h) ≡ by (step.lod kind links offset next) (at regs.old (cells store.old) h) }
+    ensures { (h : Meaning) → gives result (at regs.new (S.cells store.new) h) ≡ by (step.lod kind links offset next) (at regs.old (S.cells store.old) h) }
 {
     let x = base_of(store, links, regs.mp)?;
     load(kind, u32::from(x) + u32::from(offset), next, regs, store)
@@ -37,7 +37,7 @@ pub fn str<S: Store>(
     regs: &mut Registers,
     store: &mut S,
 ) -> Result<(), Stop>
-    ensures { (h : Meaning) → gives result (at regs.new (cells store.new) h) ≡ by (step.str kind links offset next) (at regs.old (cells store.old) h) }
+    ensures { (h : Meaning) → gives result (at regs.new (S.cells store.new) h) ≡ by (step.str kind links offset next) (at regs.old (S.cells store.old) h) }
 {
     let x = base_of(store, links, regs.mp)?;
     store_at(kind, u32::from(x) + u32::from(offset), next, regs, store)
@@ -56,7 +56,7 @@ fn push_address<S: Store>(
     regs: &mut Registers,
     store: &mut S,
 ) -> Result<(), Stop>
-    ensures { (h : Meaning) → gives result (at regs.new (cells store.new) h) ≡ by (λ s. pushed (Address (record { 0 = pos (x + offset) })) (dropped next 0 s)) (at regs.old (cells store.old) h) }
+    ensures { (h : Meaning) → gives result (at regs.new (S.cells store.new) h) ≡ by (λ s. pushed (Address (record { 0 = pos (x + offset) })) (dropped next 0 s)) (at regs.old (S.cells store.old) h) }
 {
     push(address_of(x, offset), 0, next, regs, store)
 }
@@ -68,7 +68,7 @@ pub fn lda<S: Store>(
     regs: &mut Registers,
     store: &mut S,
 ) -> Result<(), Stop>
-    ensures { (h : Meaning) → gives result (at regs.new (cells store.new) h) ≡ by (step.lda links offset next) (at regs.old (cells store.old) h) }
+    ensures { (h : Meaning) → gives result (at regs.new (S.cells store.new) h) ≡ by (step.lda links offset next) (at regs.old (S.cells store.old) h) }
 {
     let x = base_of(store, links, regs.mp)?;
     push_address(x, offset, next, regs, store)

@@ -26,7 +26,7 @@ pub(crate) fn push<S: Store>(
     regs: &mut Registers,
     store: &mut S,
 ) -> Result<(), Stop>
-    ensures { (h : Meaning) → gives result (at regs.new (cells store.new) h) ≡ by (λ s. pushed x (dropped next count s)) (at regs.old (cells store.old) h) }
+    ensures { (h : Meaning) → gives result (at regs.new (S.cells store.new) h) ≡ by (λ s. pushed x (dropped next count s)) (at regs.old (S.cells store.old) h) }
 {
     let top = regs.height.saturating_sub(count);
     if top > u32::from(regs.ep) {
@@ -45,7 +45,7 @@ pub fn two<S: Store>(
     regs: &mut Registers,
     store: &mut S,
 ) -> Result<(), Stop>
-    ensures { (h : Meaning) → gives result (at regs.new (cells store.new) h) ≡ by (step.two op next) (at regs.old (cells store.old) h) }
+    ensures { (h : Meaning) → gives result (at regs.new (S.cells store.new) h) ≡ by (step.two op next) (at regs.old (S.cells store.old) h) }
 {
     let top = stacked_at(store, regs.height, 0)?;
     let lower = stacked_at(store, regs.height, 1)?;
@@ -59,7 +59,7 @@ pub fn one<S: Store>(
     regs: &mut Registers,
     store: &mut S,
 ) -> Result<(), Stop>
-    ensures { (h : Meaning) → gives result (at regs.new (cells store.new) h) ≡ by (step.one op next) (at regs.old (cells store.old) h) }
+    ensures { (h : Meaning) → gives result (at regs.new (S.cells store.new) h) ≡ by (step.one op next) (at regs.old (S.cells store.old) h) }
 {
     let top = stacked_at(store, regs.height, 0)?;
     let x = unary(op, top)?;
@@ -72,7 +72,7 @@ pub fn ldc<S: Store>(
     regs: &mut Registers,
     store: &mut S,
 ) -> Result<(), Stop>
-    ensures { (h : Meaning) → gives result (at regs.new (cells store.new) h) ≡ by (step.ldc constant next) (at regs.old (cells store.old) h) }
+    ensures { (h : Meaning) → gives result (at regs.new (S.cells store.new) h) ≡ by (step.ldc constant next) (at regs.old (S.cells store.old) h) }
 {
     push(constant, 0, next, regs, store)
 }
@@ -83,14 +83,14 @@ pub fn dpl<S: Store>(
     regs: &mut Registers,
     store: &mut S,
 ) -> Result<(), Stop>
-    ensures { (h : Meaning) → gives result (at regs.new (cells store.new) h) ≡ by (step.dpl kind next) (at regs.old (cells store.old) h) }
+    ensures { (h : Meaning) → gives result (at regs.new (S.cells store.new) h) ≡ by (step.dpl kind next) (at regs.old (S.cells store.old) h) }
 {
     let top = typed_at(store, kind, regs.height, 0)?;
     push(top, 0, next, regs, store)
 }
 
 pub fn ujp<S: Store>(target: CodePlace, regs: &mut Registers, store: &mut S) -> Result<(), Stop>
-    ensures { (h : Meaning) → gives result (at regs.new (cells store.new) h) ≡ by (step.ujp target) (at regs.old (cells store.old) h) }
+    ensures { (h : Meaning) → gives result (at regs.new (S.cells store.new) h) ≡ by (step.ujp target) (at regs.old (S.cells store.old) h) }
 {
     regs.pc = target;
     Ok(())
@@ -102,7 +102,7 @@ pub fn fjp<S: Store>(
     regs: &mut Registers,
     store: &mut S,
 ) -> Result<(), Stop>
-    ensures { (h : Meaning) → gives result (at regs.new (cells store.new) h) ≡ by (step.fjp target next) (at regs.old (cells store.old) h) }
+    ensures { (h : Meaning) → gives result (at regs.new (S.cells store.new) h) ≡ by (step.fjp target next) (at regs.old (S.cells store.old) h) }
 {
     let top = stacked_at(store, regs.height, 0)?;
     regs.pc = if boolean_in(top)? { next } else { target };
@@ -112,8 +112,8 @@ pub fn fjp<S: Store>(
 
 // The next value waiting; a refusal leaves the host as it was.
 fn take<H: Host>(kind: Kind, host: &mut H) -> Result<Value, Stop>
-    ensures value { result ≡ next_value kind (means host.old).waiting }
-    ensures after { MatchResult result (λ _. means host.new ≡ taken kind (means host.old)) (λ _. means host.new ≡ means host.old) }
+    ensures value { result ≡ next_value kind (H.means host.old).waiting }
+    ensures after { MatchResult result (λ _. H.means host.new ≡ taken kind (H.means host.old)) (λ _. H.means host.new ≡ H.means host.old) }
 {
     host.take(kind)
 }
@@ -125,7 +125,7 @@ pub fn input<S: Store, H: Host>(
     store: &mut S,
     host: &mut H,
 ) -> Result<(), Stop>
-    ensures { gives result (at regs.new (cells store.new) (means host.new)) ≡ by (step.inp kind next) (at regs.old (cells store.old) (means host.old)) }
+    ensures { gives result (at regs.new (S.cells store.new) (H.means host.new)) ≡ by (step.inp kind next) (at regs.old (S.cells store.old) (H.means host.old)) }
 {
     if regs.height > u32::from(regs.ep) {
         return Err(Stop::StackFull);
@@ -141,7 +141,7 @@ pub fn output<S: Store, H: Host>(
     store: &mut S,
     host: &mut H,
 ) -> Result<(), Stop>
-    ensures { gives result (at regs.new (cells store.new) (means host.new)) ≡ by (step.out kind next) (at regs.old (cells store.old) (means host.old)) }
+    ensures { gives result (at regs.new (S.cells store.new) (H.means host.new)) ≡ by (step.out kind next) (at regs.old (S.cells store.old) (H.means host.old)) }
 {
     let x = typed_at(store, kind, regs.height, 0)?;
     host.put(x)?;
