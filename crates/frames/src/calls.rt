@@ -28,7 +28,7 @@ fn place_mark(x: u16) -> Cell
 
 // The five marks of a call from x up.
 fn write_marks<S: Store>(x: u16, link: u16, mp: u16, ep: u16, store: &mut S)
-    ensures { cells store.new ≡ marks x link mp ep (cells store.old) }
+    ensures { S.cells store.new ≡ marks x link mp ep (S.cells store.old) }
 {
     let x = u32::from(x);
     let _ = store.write(Slot(x), place_mark(0));
@@ -44,7 +44,7 @@ pub fn mst<S: Store>(
     regs: &mut Registers,
     store: &mut S,
 ) -> Result<(), Stop>
-    ensures { (h : Meaning) → gives result (at regs.new (cells store.new) h) ≡ by (step.mst links next) (at regs.old (cells store.old) h) }
+    ensures { (h : Meaning) → gives result (at regs.new (S.cells store.new) h) ≡ by (step.mst links next) (at regs.old (S.cells store.old) h) }
 {
     let link = base_of(store, links, regs.mp)?;
     if u64::from(regs.height) + 4 > u64::from(regs.ep) {
@@ -58,7 +58,7 @@ pub fn mst<S: Store>(
 
 // The five marks that begin at m: links below m, an EP from SP to the last cell.
 fn marked<S: Store>(m: u16, regs: &Registers, store: &S) -> Result<(), Stop>
-    ensures { (h : Meaning) → result ≡ marked m (at regs.now (cells store.now) h) }
+    ensures { (h : Meaning) → result ≡ marked m (at regs.now (S.cells store.now) h) }
 {
     let x = u32::from(m);
     mark_in(cell_at(store, x))?;
@@ -83,7 +83,7 @@ fn call_at<S: Store>(
     regs: &mut Registers,
     store: &mut S,
 ) -> Result<(), Stop>
-    ensures { (h : Meaning) → gives result (at regs.new (cells store.new) h) ≡ by (call_at (contents_of table.entry) procedure next target m) (at regs.old (cells store.old) h) }
+    ensures { (h : Meaning) → gives result (at regs.new (S.cells store.new) h) ≡ by (call_at (contents_of table.entry) procedure next target m) (at regs.old (S.cells store.old) h) }
 {
     marked(m, regs, store)?;
     passed(table, procedure, m, store)?;
@@ -102,7 +102,7 @@ fn call<S: Store>(
     regs: &mut Registers,
     store: &mut S,
 ) -> Result<(), Stop>
-    ensures { (h : Meaning) → gives result (at regs.new (cells store.new) h) ≡ by (call (contents_of table.entry) procedure next target parameters) (at regs.old (cells store.old) h) }
+    ensures { (h : Meaning) → gives result (at regs.new (S.cells store.new) h) ≡ by (call (contents_of table.entry) procedure next target parameters) (at regs.old (S.cells store.old) h) }
 {
     let taken = u32::from(parameters) + 5;
     if taken > regs.height {
@@ -130,7 +130,7 @@ pub fn cup<S: Store>(
     regs: &mut Registers,
     store: &mut S,
 ) -> Result<(), Stop>
-    ensures { (h : Meaning) → gives result (at regs.new (cells store.new) h) ≡ by (step.cup (contents_of table.entry) parameters target next) (at regs.old (cells store.old) h) }
+    ensures { (h : Meaning) → gives result (at regs.new (S.cells store.new) h) ≡ by (step.cup (contents_of table.entry) parameters target next) (at regs.old (S.cells store.old) h) }
 {
     let procedure = procedure_at(table, owner(table, natural(target)));
     call(table, procedure, next, target, parameters, regs, store)

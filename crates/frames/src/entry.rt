@@ -33,7 +33,7 @@ fn settled(cell: Cell) -> Cell
 // The working cells from x up become data cells with their values.
 fn settle<S: Store>(kinds: &[Kind], x: u32, store: &mut S)
     requires room { x + length kinds.now < 2 ^ 32 }
-    ensures { cells store.new ≡ settle kinds.now x (cells store.old) }
+    ensures { S.cells store.new ≡ settle kinds.now x (S.cells store.old) }
 {
     let mut place = x;
     for kind in kinds {
@@ -46,7 +46,7 @@ fn settle<S: Store>(kinds: &[Kind], x: u32, store: &mut S)
 // The cells from x up become data cells of these kinds without a value.
 fn clear<S: Store>(kinds: &[Kind], x: u32, store: &mut S)
     requires room { x + length kinds.now < 2 ^ 32 }
-    ensures { cells store.new ≡ clear kinds.now x (cells store.old) }
+    ensures { S.cells store.new ≡ clear kinds.now x (S.cells store.old) }
 {
     let mut place = x;
     for kind in kinds {
@@ -56,7 +56,7 @@ fn clear<S: Store>(kinds: &[Kind], x: u32, store: &mut S)
 }
 
 fn clear_result<S: Store>(res: Option<Kind>, x: u32, store: &mut S)
-    ensures { cells store.new ≡ result_cell res x (cells store.old) }
+    ensures { S.cells store.new ≡ result_cell res x (S.cells store.old) }
 {
     if let Some(kind) = res {
         let _ = store.write(Slot(x), Cell::Blank(kind));
@@ -65,7 +65,7 @@ fn clear_result<S: Store>(res: Option<Kind>, x: u32, store: &mut S)
 
 // The cells of the procedure's frame at m.
 fn open<S: Store>(table: Table<'_>, procedure: Procedure, m: u16, store: &mut S)
-    ensures { cells store.new ≡ opened (contents_of table.entry) procedure m (cells store.old) }
+    ensures { S.cells store.new ≡ opened (contents_of table.entry) procedure m (S.cells store.old) }
 {
     let x = u32::from(m);
     let parameters = parameter_kinds(table, procedure);
@@ -87,7 +87,7 @@ fn enter<S: Store>(
     regs: &mut Registers,
     store: &mut S,
 ) -> Result<(), Stop>
-    ensures { (h : Meaning) → gives result (at regs.new (cells store.new) h) ≡ by (enter (contents_of table.entry) procedure next room size) (at regs.old (cells store.old) h) }
+    ensures { (h : Meaning) → gives result (at regs.new (S.cells store.new) h) ≡ by (enter (contents_of table.entry) procedure next room size) (at regs.old (S.cells store.old) h) }
 {
     let mp = u32::from(regs.mp);
     passed(table, procedure, regs.mp, store)?;
@@ -113,7 +113,7 @@ pub fn ent<S: Store>(
     regs: &mut Registers,
     store: &mut S,
 ) -> Result<(), Stop>
-    ensures { (h : Meaning) → gives result (at regs.new (cells store.new) h) ≡ by (step.ent (contents_of table.entry) n room size next) (at regs.old (cells store.old) h) }
+    ensures { (h : Meaning) → gives result (at regs.new (S.cells store.new) h) ≡ by (step.ent (contents_of table.entry) n room size next) (at regs.old (S.cells store.old) h) }
 {
     let procedure = procedure_at(table, owner(table, n));
     enter(table, procedure, next, room, size, regs, store)

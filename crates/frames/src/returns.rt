@@ -20,7 +20,7 @@ use store::store::Store;
 
 // The registers that a return to a stack of this height takes from the marks.
 fn back_to<S: Store>(height: u32, regs: &Registers, store: &S) -> Result<Registers, Stop>
-    ensures { (h : Meaning) → result ≡ back height (at regs.now (cells store.now) h) }
+    ensures { (h : Meaning) → result ≡ back height (at regs.now (S.cells store.now) h) }
 {
     let mp = u32::from(regs.mp);
     let pc = mark_in(cell_at(store, mp + 4))?;
@@ -53,7 +53,7 @@ fn return_value<S: Store>(
     regs: &mut Registers,
     store: &mut S,
 ) -> Result<(), Stop>
-    ensures { (h : Meaning) → gives result (at regs.new (cells store.new) h) ≡ by (return_value res) (at regs.old (cells store.old) h) }
+    ensures { (h : Meaning) → gives result (at regs.new (S.cells store.new) h) ≡ by (return_value res) (at regs.old (S.cells store.old) h) }
 {
     let mp = u32::from(regs.mp);
     let caller = back_to(mp + 1, regs, store)?;
@@ -70,14 +70,14 @@ pub fn retf<S: Store>(
     regs: &mut Registers,
     store: &mut S,
 ) -> Result<(), Stop>
-    ensures { (h : Meaning) → gives result (at regs.new (cells store.new) h) ≡ by (step.retf (contents_of table.entry) n) (at regs.old (cells store.old) h) }
+    ensures { (h : Meaning) → gives result (at regs.new (S.cells store.new) h) ≡ by (step.retf (contents_of table.entry) n) (at regs.old (S.cells store.old) h) }
 {
     let procedure = procedure_at(table, owner(table, n));
     return_value(procedure.result, regs, store)
 }
 
 pub fn retp<S: Store>(regs: &mut Registers, store: &mut S) -> Result<(), Stop>
-    ensures { (h : Meaning) → gives result (at regs.new (cells store.new) h) ≡ by return_plain (at regs.old (cells store.old) h) }
+    ensures { (h : Meaning) → gives result (at regs.new (S.cells store.new) h) ≡ by return_plain (at regs.old (S.cells store.old) h) }
 {
     *regs = back_to(u32::from(regs.mp), regs, store)?;
     Ok(())
