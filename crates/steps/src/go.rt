@@ -49,8 +49,8 @@ pub fn go_on<S: Store, H: Host>(
     store: &mut S,
     host: &mut H,
 ) -> Gone
-    ensures value { ◌≡◌ {A = Went} (record { state = at regs.new (cells store.new) (means host.new); count = result.count; ending = result.ending }) (go (contents_of table.entry) n (at regs.old (cells store.old) (means host.old))) }
-    ensures long { length (cells store.new) ≡ length (cells store.old) }
+    ensures value { ◌≡◌ {A = Went} (record { state = at regs.new (S.cells store.new) (H.means host.new); count = result.count; ending = result.ending }) (go (contents_of table.entry) n (at regs.old (S.cells store.old) (H.means host.old))) }
+    ensures long { length (S.cells store.new) ≡ length (S.cells store.old) }
     ensures last { regs.new.last ≡ regs.old.last }
 {
     for i in 0..n {

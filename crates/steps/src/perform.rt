@@ -45,7 +45,7 @@ pub(crate) fn perform<S: Store, H: Host>(
     store: &mut S,
     host: &mut H,
 ) -> Result<(), Ending>
-    ensures { gives result (at regs.new (cells store.new) (means host.new)) ≡ by (perform (contents_of table.entry) n operation) (at regs.old (cells store.old) (means host.old)) }
+    ensures { gives result (at regs.new (S.cells store.new) (H.means host.new)) ≡ by (perform (contents_of table.entry) n operation) (at regs.old (S.cells store.old) (H.means host.old)) }
 {
     let next = next_place(n);
     match operation {

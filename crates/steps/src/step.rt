@@ -21,7 +21,7 @@ fn step_at<S: Store, H: Host>(
     store: &mut S,
     host: &mut H,
 ) -> Result<(), Ending>
-    ensures { gives result (at regs.new (cells store.new) (means host.new)) ≡ by (step_by (contents_of table.entry) n (decoded (slice_get table.entry.code.now n))) (at regs.old (cells store.old) (means host.old)) }
+    ensures { gives result (at regs.new (S.cells store.new) (H.means host.new)) ≡ by (step_by (contents_of table.entry) n (decoded (slice_get table.entry.code.now n))) (at regs.old (S.cells store.old) (H.means host.old)) }
 {
     match operation_at(table, n) {
         None => Err(Ending::Stopped(Stop::OutsideCode)),
@@ -36,8 +36,8 @@ pub fn step<S: Store, H: Host>(
     store: &mut S,
     host: &mut H,
 ) -> Result<(), Ending>
-    ensures value { gives result (at regs.new (cells store.new) (means host.new)) ≡ by (step (contents_of table.entry)) (at regs.old (cells store.old) (means host.old)) }
-    ensures long { length (cells store.new) ≡ length (cells store.old) }
+    ensures value { gives result (at regs.new (S.cells store.new) (H.means host.new)) ≡ by (step (contents_of table.entry)) (at regs.old (S.cells store.old) (H.means host.old)) }
+    ensures long { length (S.cells store.new) ≡ length (S.cells store.old) }
     ensures last { regs.new.last ≡ regs.old.last }
 {
     match number(regs.pc) {
