@@ -1,5 +1,5 @@
 -- The walk over a list of calls: what is left gives the whole.
-use Rattle.std.proofs.Common.{◌≡◌, ℕ, suc, ◌+◌, ◌<◌, ◌≤◌, List, [], ◌∷◌, ◌++◌, map, length, get_or, take, drop, set, sym, refl, ap, ◌∙◌, arith, take-append-drop}
+use Rattle.std.proofs.Common.{◌≡◌, ℕ, suc, ◌+◌, ◌<◌, ◌≤◌, List, [], ◌∷◌, ◌++◌, length, get_or, take, drop, set, sym, refl, ap, ◌∙◌, arith, take-append-drop}
 use Rattle.std.proofs.lemmas.List.{take_more_set, drop_more, drop_all, drop-drop, drop-set-lt, take_at, append_assoc, append-nil}
 use Rattle.sheet.specs.Tables.{Contents}
 use Rattle.machine.specs.States.{State}

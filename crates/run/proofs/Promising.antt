@@ -19,7 +19,7 @@ use Rattle.machine.specs.Endings.{ending_of}
 use Rattle.machine.specs.Runs.{begun, go}
 use Rattle.machine.specs.States.{State}
 use Rattle.soundness.specs.Frames.{Rows}
-use Rattle.soundness.specs.Runs.{left, total, StaysTyped}
+use Rattle.soundness.specs.Runs.{total, StaysTyped}
 use Rattle.soundness.proofs.Admits.{admitted_runs_stay_typed}
 use Rattle.soundness.proofs.Runs.{one_go}
 use Rattle.run.specs.declared.answer.Answer.{Answer}

@@ -8,12 +8,12 @@ use Rattle.rules.specs.declared.fault.TableFault.{TableFault}
 use Rattle.rules.specs.Lookups.{contents_of}
 use Rattle.rows.specs.declared.row.Row.{Row}
 use Rattle.admit.specs.declared.Passed.{Passed}
-use Rattle.admit.specs.Admissions.{rows_for, admission}
+use Rattle.admit.specs.Admissions.{admission}
 use Rattle.store.specs.declared.cell.Cell.{Cell}
 use Rattle.store.specs.declared.cell.Cell.TheVariants.{Free}
 use Rattle.host.specs.Hosts.{Meaning}
 use Rattle.machine.specs.Runs.{begun, begun_cells}
-use Rattle.machine.specs.States.{State, at, code_at, regs_at}
+use Rattle.machine.specs.States.{at, code_at, regs_at}
 use Rattle.run.specs.declared.answer.Answer.{Answer}
 use Rattle.run.specs.declared.answer.Call.{Call}
 use Rattle.run.specs.declared.fault.UndergoFault.{UndergoFault}
@@ -21,7 +21,7 @@ use Rattle.run.specs.declared.fault.UndergoFault.TheVariants as fault
 use Rattle.run.specs.declared.run.Refused.{Refused}
 use Rattle.run.specs.declared.run.Run.{Run}
 use Rattle.run.specs.Calls.{sized, begins, begin_cells}
-use Rattle.run.specs.Promise.{Kept, KeptOf}
+use Rattle.run.specs.Promise.{KeptOf}
 use Rattle.run.specs.Undergone.{told, state_after, Undergone, refused, made, undergone_by, undergone}
 use Rattle.run.proofs.Listing.{first_told}
 use Rattle.run.proofs.Promising.{admits, kept}

@@ -7,7 +7,7 @@
 --   Undergone: what the call that undergoes them answers, and what it leaves
 --   undergone: that: the table is admitted, answers enough are lent, the run begins, and each call is made in turn; a refusal
 --     leaves everything as it was, and answers past the calls stay in any case
-use Rattle.std.specs.Prelude.{ℕ, cond, List, [], ◌∷◌, ◌++◌, map, length, drop, Ok, Err, Result, nat_le}
+use Rattle.std.specs.Prelude.{cond, List, [], ◌∷◌, ◌++◌, map, length, drop, Ok, Err, Result, nat_le}
 use Rattle.std.specs.Borrow.{Bor}
 use Rattle.sheet.specs.declared.table.Table.{Table}
 use Rattle.sheet.specs.Tables.{Contents}

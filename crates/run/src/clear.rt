@@ -10,8 +10,8 @@ use store::slot::Slot;
 use store::store::Store;
 
 fn free_all<S: Store>(store: &mut S, n: u32)
-    requires whole { n ≡ length (cells store.old) }
-    ensures { cells store.new ≡ replicate n Free }
+    requires whole { n ≡ length (S.cells store.old) }
+    ensures { S.cells store.new ≡ replicate n Free }
 {
     for i in 0..n {
         let _ = store.write(Slot(i), Cell::Free);
@@ -19,7 +19,7 @@ fn free_all<S: Store>(store: &mut S, n: u32)
 }
 
 fn lay_marks<S: Store>(store: &mut S)
-    ensures { cells store.new ≡ put (put (put (put (put (cells store.old) 0 (place 0)) 1 (place 0)) 2 (place 0)) 3 (place 0)) 4 (place 0) }
+    ensures { S.cells store.new ≡ put (put (put (put (put (S.cells store.old) 0 (place 0)) 1 (place 0)) 2 (place 0)) 3 (place 0)) 4 (place 0) }
 {
     let _ = store.write(Slot(0), Cell::Mark(0));
     let _ = store.write(Slot(1), Cell::Mark(0));
@@ -30,9 +30,9 @@ fn lay_marks<S: Store>(store: &mut S)
 
 // Five marks with 0, and the others free.
 pub(crate) fn clear<S: Store>(store: &mut S, n: u32)
-    requires whole { n ≡ length (cells store.old) }
+    requires whole { n ≡ length (S.cells store.old) }
     requires wide { 5 ≤ n }
-    ensures { cells store.new ≡ begun_cells n }
+    ensures { S.cells store.new ≡ begun_cells n }
 {
     free_all(store, n);
     lay_marks(store);

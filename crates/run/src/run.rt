@@ -35,8 +35,8 @@ impl<'a> Refused<'a> {
 
 // Uses up a passed table and frees every cell; a refusal leaves the store as it was.
 pub fn begin<'a, S: Store>(passed: Passed<'a>, store: &mut S) -> Result<Run<'a>, Refused<'a>>
-    ensures value { result ≡ begins passed.entry (length (cells store.old)) }
-    ensures after { cells store.new ≡ begin_cells (cells store.old) }
+    ensures value { result ≡ begins passed.entry (length (S.cells store.old)) }
+    ensures after { S.cells store.new ≡ begin_cells (S.cells store.old) }
 {
     let n = store.len();
     if n < 5 || n > 65536 {
@@ -54,13 +54,13 @@ pub fn begin<'a, S: Store>(passed: Passed<'a>, store: &mut S) -> Result<Run<'a>,
 }
 
 fn is_fit<S: Store>(store: &S, last: u16) -> bool
-    ensures { result ≡ fits last (cells store.now) }
+    ensures { result ≡ fits last (S.cells store.now) }
 {
     store.len() == last as usize + 1
 }
 
 fn cell_at<S: Store>(store: &S, height: u32, place: i32) -> Result<Cell, LookFault>
-    ensures { result ≡ look_at place height (cells store.now) }
+    ensures { result ≡ look_at place height (S.cells store.now) }
 {
     if place < 0 {
         return Err(LookFault::NotReached);
@@ -84,8 +84,8 @@ fn stack_place(height: u32) -> StorePlace
 impl<'a> Run<'a> {
     // Steps until n are done, or until something ends the run sooner.
     pub fn go<S: Store, H: Host>(&mut self, store: &mut S, host: &mut H, n: u32) -> Went
-        ensures value { ◌≡◌ {A = Gone} (record { answer = result; run = self.new; cells = cells store.new; host = means host.new }) (gone n self.old (cells store.old) (means host.old)) }
-        ensures kept { (length (cells store.new) ≡ length (cells store.old)) × (self.new.regs.last ≡ self.old.regs.last) }
+        ensures value { ◌≡◌ {A = Gone} (record { answer = result; run = self.new; cells = S.cells store.new; host = H.means host.new }) (gone n self.old (S.cells store.old) (H.means host.old)) }
+        ensures kept { (length (S.cells store.new) ≡ length (S.cells store.old)) × (self.new.regs.last ≡ self.old.regs.last) }
     {
         if !is_fit(store, self.regs.last) {
             return Went {
@@ -103,7 +103,7 @@ impl<'a> Run<'a> {
 
     // The cell at a place from 0 to SP.
     pub fn look<S: Store>(&self, store: &S, place: StorePlace) -> Result<Cell, LookFault>
-        ensures { result ≡ looked place self.now (cells store.now) }
+        ensures { result ≡ looked place self.now (S.cells store.now) }
     {
         if !is_fit(store, self.regs.last) {
             return Err(LookFault::OtherStore);

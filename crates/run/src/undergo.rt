@@ -28,10 +28,10 @@ fn found(cell: Result<Cell, LookFault>) -> Answer
 }
 
 fn make<S: Store, H: Host>(run: &mut Run<'_>, store: &mut S, host: &mut H, call: Call) -> Answer
-    requires fits { length (cells store.old) ≡ run.old.regs.last + 1 }
-    ensures value { ◌≡◌ {A = One} (record { answer = result; state = at run.new.regs (cells store.new) (means host.new) }) (one (contents_of run.old.passed.table) call (at run.old.regs (cells store.old) (means host.old))) }
+    requires fits { length (S.cells store.old) ≡ run.old.regs.last + 1 }
+    ensures value { ◌≡◌ {A = One} (record { answer = result; state = at run.new.regs (S.cells store.new) (H.means host.new) }) (one (contents_of run.old.passed.table) call (at run.old.regs (S.cells store.old) (H.means host.old))) }
     ensures same { run.new.passed ≡ run.old.passed }
-    ensures fits { length (cells store.new) ≡ run.new.regs.last + 1 }
+    ensures fits { length (S.cells store.new) ≡ run.new.regs.last + 1 }
 {
     match call {
         Call::Go(n) => Answer::Went(run.go(store, host, n)),
@@ -47,10 +47,10 @@ fn make_all<S: Store, H: Host>(
     calls: &[Call],
     answers: &mut [Answer],
 )
-    requires fits { length (cells store.old) ≡ run.old.regs.last + 1 }
+    requires fits { length (S.cells store.old) ≡ run.old.regs.last + 1 }
     requires room { length calls.now ≤ length answers.old }
-    ensures value { answers.new ≡ told (contents_of run.old.passed.table) calls.now (at run.old.regs (cells store.old) (means host.old)) ++ drop (length calls.now) answers.old }
-    ensures after { at run.new.regs (cells store.new) (means host.new) ≡ state_after (contents_of run.old.passed.table) calls.now (at run.old.regs (cells store.old) (means host.old)) }
+    ensures value { answers.new ≡ told (contents_of run.old.passed.table) calls.now (at run.old.regs (S.cells store.old) (H.means host.old)) ++ drop (length calls.now) answers.old }
+    ensures after { at run.new.regs (S.cells store.new) (H.means host.new) ≡ state_after (contents_of run.old.passed.table) calls.now (at run.old.regs (S.cells store.old) (H.means host.old)) }
     ensures same { run.new.passed ≡ run.old.passed }
 {
     for (i, call) in calls.iter().enumerate() {
@@ -68,8 +68,8 @@ pub fn undergo<'a, S: Store, H: Host>(
     calls: &[Call],
     answers: &mut [Answer],
 ) -> Result<Run<'a>, UndergoFault>
-    ensures value { ◌≡◌ {A = Undergone} (record { answer = result; cells = cells store.new; host = means host.new; answers = answers.new }) (undergone table.entry rows.entry calls.now (cells store.old) (means host.old) answers.old) }
-    ensures kept { KeptOf table.entry rows.now (length (cells store.old)) (means host.old) calls.now result (cells store.new) (means host.new) answers.new }
+    ensures value { ◌≡◌ {A = Undergone} (record { answer = result; cells = S.cells store.new; host = H.means host.new; answers = answers.new }) (undergone table.entry rows.entry calls.now (S.cells store.old) (H.means host.old) answers.old) }
+    ensures kept { KeptOf table.entry rows.now (length (S.cells store.old)) (H.means host.old) calls.now result (S.cells store.new) (H.means host.new) answers.new }
     ensures law { EqualCountsLeaveEqualStates }
     ensures typed { AdmittedRunsStayTyped }
     ensures frames { OpenFramesLeadToPlace0 }

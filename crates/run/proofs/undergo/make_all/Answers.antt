@@ -1,4 +1,4 @@
-use Rattle.std.proofs.Common.{◌≡◌, ◌<◌, length, refl, ap, ◌∙◌, arith}
+use Rattle.std.proofs.Common.{◌<◌, length, ap, ◌∙◌, arith}
 use Rattle.rules.specs.Lookups.{contents_of}
 use Rattle.admit.specs.declared.Passed.{Passed}
 use Rattle.run.proofs.Listing.{walk_on, walk_ends}
