@@ -1,15 +1,18 @@
-use Rattle.std.proofs.Common.{◌≡◌, ℕ, zero, suc, ◌+◌, ◌-◌, ◌<◌, ◌≤◌, Bool, true, false, cond, ◌&&◌, T, eqb, leb, List, [], ◌∷◌, ◌++◌, map, length, get_or, take, drop, set, replicate, Some, None, sym, refl, ap, ◌∙◌, le_of_suc-le-suc, not-suc-le-zero, arith}
+use Rattle.std.proofs.Common.{◌≡◌, ℕ, zero, suc, ◌+◌, ◌-◌, ◌<◌, ◌≤◌, Bool, true, false, cond, ◌&&◌, T, eqb, leb, List, [], ◌∷◌, ◌++◌, map, length, get_or, take, drop, set, replicate, Some, None, Decides, sym, refl, ap, ◌∙◌, le_of_suc-le-suc, not-suc-le-zero, arith}
 use Rattle.std.proofs.lemmas.Bool.Decides.{same_from_decides}
 use Rattle.std.proofs.lemmas.Slice.Eq.{bytes_eq-Decides}
-use Rattle.std.proofs.lemmas.Bool.{ltb-true, ne_eqb, eqb-true, and_parts, and_from, cond-true, cond_both, le-leb, leb-true}
+use Rattle.std.proofs.lemmas.Bool.{eq-eqb, ltb-true, ne_eqb, eqb-true, and_parts, and_from, cond-true, cond_both, le-leb, leb-true}
 use Rattle.std.proofs.lemmas.List.{take_more_set, map_push, drop-set-lt, drop_more, take-set, take-map, take-take, drop-set, at_drop_more, at_drop_all, length-take-le, length-drop, take-append-drop}
 use Rattle.rows.specs.declared.row.Row.{Row}
 use Rattle.sheet.specs.declared.kind.Kind.TheVariants.{Address, Boolean, Character, Integer, Real}
 use Rattle.rows.specs.declared.entry.Entry.{Entry}
 use Rattle.rows.specs.declared.entry.Entry.TheVariants.{Value, Mark}
 use Rattle.std.specs.List.{slice_get}
+use Rattle.std.specs.Cmp.Lexicographic.{pointwise}
+use Rattle.std.proofs.lemmas.Slice.Eq.{slice_eq-Decides}
+use Rattle.std.proofs.lemmas.Bool.Decides.{Decides-eqb}
 use Rattle.rows.specs.Entries.{entry_of, proper, byte_of}
-use Rattle.rows.specs.Rows.{every, entries, blanks, is_row, bottom_up, same}
+use Rattle.rows.specs.Rows.{every, entries, blanks, is_row, bottom_up, same, equal_records, EqualRecordsAreOne}
 
 and_assoc : (x y z : Bool) → ((x && y) && z) ≡ (x && (y && z))
 and_assoc true y z = refl
@@ -159,7 +162,7 @@ every_at p [] i d e h = absurd (not-suc-le-zero h)
 every_at p (x ∷ xs) zero d e h = (and_parts (p x) (every p xs) e).0
 every_at p (x ∷ xs) (suc i) d e h = every_at p xs i d (and_parts (p x) (every p xs) e).1 (le_of_suc-le-suc h)
 
--- is_row records with the same bytes in front are the same record
+-- records that are rows, with the same bytes in front are the same record
 pub same_record : (a b : Row) → length a.bytes ≡ 40 → length b.bytes ≡ 40 → is_row a ≡ true → is_row b ≡ true
     → take a.len a.bytes ≡ take b.len b.bytes → a ≡ b
 same_record a b la lb va vb e =
@@ -179,22 +182,49 @@ same_record a b la lb va vb e =
     ∙ ap (λ x. take b.len b.bytes ++ x) za ∙ take-append-drop b.len b.bytes in
     λ i. record { len = n i; bytes = m i }
 
--- `==` on is_row records says whether their entries are the same
+-- `==` on records that are rows says whether their entries are the same
 pub equals_same : (a b : Row) (r : Bool) → length a.bytes ≡ 40 → length b.bytes ≡ 40 → is_row a ≡ true → is_row b ≡ true
     → (T r → a ≡ b) × (a ≡ b → T r) → r ≡ same (entries a) (entries b)
 equals_same a b r la lb va vb d =
     let f : map byte_of (entries a) ≡ map byte_of (entries b) → a ≡ b
     = λ e. same_record a b la lb va vb (sym (codes_entries (take a.len a.bytes)) ∙ e ∙ codes_entries (take b.len b.bytes)) in
     same_from_decides r (same (entries a) (entries b))
-    ((λ t. ap (λ (x : Row). map byte_of (entries x)) (d.0 (true_T r t))), (λ e. TTrue r (d.1 (f e))))
+    ((λ t. ap (λ (x : Row). map byte_of (entries x)) (d.0 (true_T r t))), (λ e. is_true r (d.1 (f e))))
     (bytes_eq-Decides (map byte_of (entries a)) (map byte_of (entries b)))
   where
     true_T : (b : Bool) → b ≡ true → T b
     true_T b e = rw e tt
 
-    TTrue : (b : Bool) → T b → b ≡ true
-    TTrue true t = refl
-    TTrue false t = absurd t
+    is_true : (b : Bool) → T b → b ≡ true
+    is_true true t = refl
+    is_true false t = absurd t
+
+pub equal_records_are_one : EqualRecordsAreOne
+equal_records_are_one a b = record {
+  one = one;
+  equal = all;
+  stacks = λ la lb va vb. equals_same a b (equal_records a b) la lb va vb (one, all);
+}
+  where
+    tells : Decides (pointwise eqb a.bytes b.bytes) (a.bytes ≡ b.bytes)
+    tells = slice_eq-Decides Decides-eqb a.bytes b.bytes (pointwise eqb a.bytes b.bytes) refl
+
+    is_true : (x : Bool) → T x → x ≡ true
+    is_true true t = refl
+    is_true false t = absurd t
+
+    one : T (equal_records a b) → a ≡ b
+    one t =
+        let parts = and_parts (eqb a.len b.len) (pointwise eqb a.bytes b.bytes) (is_true (equal_records a b) t) in
+        let n : a.len ≡ b.len = eqb-true a.len b.len parts.0 in
+        let m : a.bytes ≡ b.bytes = tells.0 parts.1 in
+        λ i. record { len = n i; bytes = m i }
+
+    all : a ≡ b → T (equal_records a b)
+    all e =
+        let n : eqb a.len b.len ≡ true = eq-eqb a.len b.len (ap (λ (r : Row). r.len) e) in
+        let m : pointwise eqb a.bytes b.bytes ≡ true = tells.1 (ap (λ (r : Row). r.bytes) e) in
+        rw (and_from (eqb a.len b.len) (pointwise eqb a.bytes b.bytes) n m) tt
 
 -- the i-th entry of a record of n entries
 pub nth_there : (xs : List ℕ) (n i : ℕ) → i < n → i < length xs → slice_get (map entry_of (take n xs)) i ≡ Some (entry_of (get_or xs i 0))

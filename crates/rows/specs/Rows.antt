@@ -2,10 +2,14 @@
 --   entries: the entries before its length, the bottom first
 --   is_row: whether the record is a row
 --   meaning: the stack that it holds, the top first
+--   equal_records: whether two records have the same length and the same bytes
+--   EqualRecordsAreOne: such records are the same record, and the other way round; of two rows it says whether they are the
+--     same stack
 --   packed_byte: the byte of an entry, if a row may hold it
 --   packed: the record of a stack, if that is a row
-use Rattle.std.specs.Prelude.{ℕ, ◌-◌, Bool, true, cond, ◌&&◌, List, [], ◌∷◌, ◌++◌, map, reverse, length, take, drop, replicate, Some, None, Option, nat_eq, nat_le}
+use Rattle.std.specs.Prelude.{◌≡◌, ℕ, ◌-◌, Bool, true, cond, T, ◌&&◌, List, [], ◌∷◌, ◌++◌, map, reverse, length, take, drop, replicate, Some, None, Option, nat_eq, nat_le}
 use Rattle.std.specs.Str.{bytes_eq}
+use Rattle.std.specs.Cmp.Lexicographic.{pointwise}
 use Rattle.rows.specs.declared.entry.Entry.{Entry}
 use Rattle.rows.specs.declared.row.Row.{Row}
 use Rattle.rows.specs.Entries.{entry_of, byte_of, proper}
@@ -39,6 +43,17 @@ empty_row = record { len = 0; bytes = replicate 40 0 }
 
 abbrev pub same : List Entry → List Entry → Bool
 same es fs = bytes_eq (map byte_of es) (map byte_of fs)
+
+abbrev pub equal_records : Row → Row → Bool
+equal_records a b = nat_eq a.len b.len && pointwise nat_eq a.bytes b.bytes
+
+pub record OneRecord (a b : Row) : Type 0 where
+  pub one : T (equal_records a b) → a ≡ b
+  pub equal : a ≡ b → T (equal_records a b)
+  pub stacks : length a.bytes ≡ 40 → length b.bytes ≡ 40 → is_row a ≡ true → is_row b ≡ true → equal_records a b ≡ same (entries a) (entries b)
+
+abbrev pub EqualRecordsAreOne : Type 0
+EqualRecordsAreOne = (a b : Row) → OneRecord a b
 
 -- the byte of an entry that a row may hold
 abbrev pub packed_byte : Entry → Option ℕ

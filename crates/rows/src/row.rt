@@ -1,7 +1,7 @@
 ghost use Rattle.std.specs.Prelude.{◌≡◌, true, T, map, Some, None, ◌==◌, ◌&&◌, nat_eq, nat_lt};
 ghost use Rattle.std.specs.List.{slice_get};
 ghost use Rattle.rows.specs.Entries.{entry_of, proper};
-ghost use Rattle.rows.specs.Rows.{entries, same, every, blanks, is_row, no_row, empty_row, packed_byte, packed};
+ghost use Rattle.rows.specs.Rows.{entries, same, equal_records, EqualRecordsAreOne, every, blanks, is_row, no_row, empty_row, packed_byte, packed};
 ghost use Rattle.pile.specs.Piles.{bottom_first};
 ghost use Rattle.std.specs.Cmp.Rules.{comparing};
 ghost use Rattle.std.specs.Cmp.Lexicographic.{pointwise};
@@ -19,15 +19,16 @@ pub struct Row {
 }
 
 impl PartialEq for Row {
-    ghost eq = { λ a b. nat_eq a.len b.len && pointwise nat_eq a.bytes b.bytes };
+    ghost eq = { equal_records };
 
     ghost laws = { Prim.search (comparing, rules) };
 
     // Equal records are the same record, and of rows the same stack.
     fn eq(&self, other: &Row) -> bool
-        ensures eq { result ≡ (nat_eq self.now.len other.now.len && pointwise nat_eq self.now.bytes other.now.bytes) }
+        ensures eq { result ≡ equal_records self.now other.now }
         ensures same { T result → self.now ≡ other.now }
         ensures equal { self.now ≡ other.now → T result }
+        ensures law { EqualRecordsAreOne }
         ensures stacks { is_row self.now ≡ true → is_row other.now ≡ true → result ≡ same (entries self.now) (entries other.now) }
     {
         if self.len != other.len {

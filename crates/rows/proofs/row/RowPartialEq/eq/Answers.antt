@@ -1,7 +1,7 @@
 use Rattle.std.proofs.Common.{◌≡◌, Bool, true, false, T, length, ap, rules}
 use Rattle.std.proofs.lemmas.Slice.Eq.{slice_eq-Decides}
 use Rattle.rows.specs.declared.row.Row.{Row}
-use Rattle.rows.proofs.Laws.{equals_same}
+use Rattle.rows.proofs.Laws.{equals_same, equal_records_are_one}
 use Rattle.rows.proofs.row.RowPartialEq.eq.Goals as goal
 use Rattle.std.proofs.lemmas.Bool.Decides.{Decides-eqb}
 
@@ -24,6 +24,7 @@ returns c =
       eq = search rules;
       same = to;
       equal = from;
+      law = equal_records_are_one;
       stacks = λ va vb. equals_same c.args.self.now c.args.other.now c.eq.result la lb va vb (to, from);
     }
 
@@ -37,5 +38,6 @@ returns-then-self-other c =
       eq = search rules;
       same = to;
       equal = from;
+      law = equal_records_are_one;
       stacks = λ va vb. equals_same c.args.self.now c.args.other.now false la lb va vb (to, from);
     }
