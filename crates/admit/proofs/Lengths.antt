@@ -16,7 +16,8 @@ use Rattle.judge.specs.Flaws.{flaw_at}
 use Rattle.judge.specs.Flow.{same_stack}
 use Rattle.judge.proofs.Handing.{reached, unreached}
 use Rattle.judge.proofs.Inside.{stacks_tell}
-use Rattle.admit.specs.Local.{Check, must_be}
+use Rattle.judge.specs.Handing.{must_be}
+use Rattle.admit.specs.Local.{Check}
 
 values_proper : (ts : List Kind) → every proper (map Value ts) ≡ true
 values_proper [] = refl

@@ -1,5 +1,5 @@
 mod Heads
+mod Heights
 pub mod Laws
 mod Lengths
-mod Rows
 pub mod Scanning

@@ -18,10 +18,10 @@ use Rattle.judge.specs.declared.flaw.Flaw.{Flaw}
 use Rattle.judge.specs.declared.flaw.Flaw.TheVariants.{Differs, TooHigh}
 use Rattle.judge.specs.Flaws.{flaw_at}
 use Rattle.judge.specs.Flow.{same_stack, entry_of, as_step, stacks, fit}
-use Rattle.judge.specs.Handing.{meanings}
+use Rattle.judge.specs.Handing.{meanings, must_be}
 use Rattle.judge.proofs.Handing.{row_of}
 use Rattle.admit.specs.Admissions.{answer}
-use Rattle.admit.specs.Local.{Check, and_then, must_be, all_there, on_from, step_right, low_enough, owning, head_right, right_at}
+use Rattle.admit.specs.Local.{Check, and_then, all_there, on_from, step_right, low_enough, owning, head_right, right_at}
 use Rattle.admit.proofs.Heads.{begins_here, none_begins_here}
 
 or_is : (x y : Fault Flaw) → answer (or_else x y) ≡ and_then (answer x) (answer y)
@@ -116,16 +116,21 @@ module _ (T : Contents) (checked : Checked T) where
 
   -- the record lent for instruction i passes, or is refused
   module _ (rs : List Row) (wide : length rs ≡ length T.code) (i : ℕ) (d : Row) (inside : i < length rs) where
-    at : (c : Check) → c ≡ right_at T (meanings rs) i (meaning (get_or rs i d)) → left T (meanings rs) i ≡ and_then c (left T (meanings rs) (i + 1))
-    at c e =
-        one_more (meanings rs) i (omega (arith, wide, inside))
-        ∙ sym (ap (λ c. and_then c (left T (meanings rs) (i + 1))) (e ∙ ap (right_at T (meanings rs) i) (sym (row_of rs i d inside))))
+    abbrev own : Option Stack
+    own = meaning (get_or rs i d)
 
-    pub row_passes : Ok tt ≡ right_at T (meanings rs) i (meaning (get_or rs i d)) → left T (meanings rs) i ≡ left T (meanings rs) (i + 1)
-    row_passes e = at (Ok tt) e
+    at : left T (meanings rs) i ≡ and_then (and_then (head_right T i own) (step_right T (meanings rs) i own)) (left T (meanings rs) (i + 1))
+    at = one_more (meanings rs) i (omega (arith, wide, inside)) ∙ ap (λ o. and_then (right_at T (meanings rs) i o) (left T (meanings rs) (i + 1))) (row_of rs i d inside)
 
-    pub row_refused : (x : TableFault) → Err x ≡ right_at T (meanings rs) i (meaning (get_or rs i d)) → left T (meanings rs) i ≡ Err x
-    row_refused x e = at (Err x) e
+    pub row_passes : Ok tt ≡ head_right T i own → Ok tt ≡ step_right T (meanings rs) i own → left T (meanings rs) i ≡ left T (meanings rs) (i + 1)
+    row_passes h s = at ∙ sym (ap (λ c. and_then (and_then c (step_right T (meanings rs) i own)) (left T (meanings rs) (i + 1))) h) ∙ sym (ap (λ c. and_then c (left T (meanings rs) (i + 1))) s)
+
+    pub head_refused : (x : TableFault) → Err x ≡ head_right T i own → left T (meanings rs) i ≡ Err x
+    head_refused x h = at ∙ sym (ap (λ c. and_then (and_then c (step_right T (meanings rs) i own)) (left T (meanings rs) (i + 1))) h)
+
+    pub step_refused : Ok tt ≡ head_right T i own → (x : TableFault) → Err x ≡ step_right T (meanings rs) i own → left T (meanings rs) i ≡ Err x
+    step_refused h x s =
+        at ∙ sym (ap (λ c. and_then (and_then c (step_right T (meanings rs) i own)) (left T (meanings rs) (i + 1))) h) ∙ sym (ap (λ c. and_then c (left T (meanings rs) (i + 1))) s)
 
   pub ended : (rows : Rows Stack) (i : ℕ) → length T.code ≤ i → left T rows i ≡ Ok tt
   ended rows i l = ap answer (turns.ended rows i l)

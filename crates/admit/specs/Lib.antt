@@ -1,3 +1,4 @@
 pub mod Admissions
 pub mod Laws
 pub mod Local
+pub mod Heights

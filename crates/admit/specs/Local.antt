@@ -2,7 +2,6 @@
 -- is proved. Assumes nothing.
 --   Check: the answer of a check
 --   and_then: a check after another, which must pass
---   must_be: the row in place at j, if any, must be this stack
 --   all_there: each stack handed on must be the row of the instruction that it goes to, one after another
 --   step_right: what instruction i does with its row breaks no stack rule, and all that it hands on is there
 --   low_enough: a row must not exceed the cells that the procedure's ent allows
@@ -19,9 +18,10 @@ use Rattle.paths.specs.Rows.{Rows, row_at}
 use Rattle.transfer.specs.declared.breach.Breach.{Breach}
 use Rattle.transfer.specs.Stacks.{Stack, cells_on}
 use Rattle.transfer.specs.Transfer.{transfer}
-use Rattle.judge.specs.declared.flaw.Flaw.TheVariants.{Broken, Differs, TooHigh}
+use Rattle.judge.specs.declared.flaw.Flaw.TheVariants.{Broken, TooHigh}
 use Rattle.judge.specs.Flaws.{flaw_at}
-use Rattle.judge.specs.Flow.{same_stack, entry_of}
+use Rattle.judge.specs.Flow.{entry_of}
+use Rattle.judge.specs.Handing.{must_be}
 
 abbrev pub Check : Type 0
 Check = Result (Unit {0}) TableFault
@@ -29,10 +29,6 @@ Check = Result (Unit {0}) TableFault
 abbrev pub and_then : Check → Check → Check
 and_then (Ok x) c = c
 and_then (Err f) c = Err f
-
-abbrev pub must_be : Option Stack → ℕ → Stack → Check
-must_be None j s = Err (flaw_at Differs j)
-must_be (Some q) j s = cond (same_stack q s) (Ok tt) (Err (flaw_at Differs j))
 
 abbrev pub all_there : Rows Stack → List (Hand Stack) → Check
 all_there rows [] = Ok tt

@@ -1,15 +1,16 @@
-// The local rule at one instruction.
+// The local rule at each instruction.
 ghost use Rattle.std.specs.Prelude.{◌≡◌, ◌<◌, true, [], ◌∷◌, length};
 ghost use Rattle.rules.specs.Lookups.{contents_of};
-ghost use Rattle.paths.specs.Rows.{row_at};
+ghost use Rattle.paths.specs.Admitting.{admit};
 ghost use Rattle.rows.specs.Rows.{is_row, meaning};
 ghost use Rattle.transfer.specs.Transfer.{handed, stack_of, Checked};
-ghost use Rattle.judge.specs.Flow.{entry_of};
-ghost use Rattle.judge.specs.Handing.{meanings};
-ghost use Rattle.admit.specs.Local.{must_be, all_there, step_right, low_enough, head_right, right_at};
+ghost use Rattle.judge.specs.Flow.{entry_of, stacks, fit};
+ghost use Rattle.judge.specs.Handing.{meanings, must_be};
+ghost use Rattle.paths.specs.Rows.{row_at};
 
 use crate::height::cells_of;
 use judge::flaw::Flaw;
+use judge::meet::must_be;
 use rows::row::Row;
 use rules::effects::Way;
 use rules::fault::TableFault;
@@ -19,115 +20,103 @@ use sheet::table::Table;
 use transfer::entrance::entry_row;
 use transfer::transfer::{Sent, transfer};
 
-// The record found at instruction j must be this row.
-fn must_be(found: Row, j: usize, row: Row) -> Result<(), TableFault>
-    requires { is_row row ≡ true }
-    ensures { result ≡ must_be (meaning found) j (stack_of row) }
-{
-    if found == row {
-        Ok(())
-    } else {
-        Err(Flaw::Differs.at(j))
-    }
+// A table that keeps the rules, and the rows lent for it, one for each instruction.
+#[derive(Clone, Copy, Drop)]
+pub(crate) struct Admission<'a> {
+    pub(crate) table: Table<'a>,
+    pub(crate) rows: &'a [Row],
+    ghost checked: { Checked (contents_of table) },
+    ghost wide: { length rows.now ≡ length table.code.now },
 }
 
-// The record lent for instruction j; none is lent past the end.
-fn row_at(rows: &[Row], j: usize) -> Row
-    ensures { meaning result ≡ row_at (meanings rows.now) j }
-{
-    if j < rows.len() {
-        rows[j]
-    } else {
-        Row::unreached()
-    }
-}
+impl<'a> Admission<'a> {
+    ghost use Rattle.admit.specs.Admissions.{answer};
+    ghost use Rattle.admit.specs.Local.{all_there, step_right, low_enough, head_right};
 
-// Instruction j must have this row.
-fn hold(rows: &[Row], j: usize, row: Row) -> Result<(), TableFault>
-    requires { is_row row ≡ true }
-    ensures { result ≡ must_be (row_at (meanings rows.now) j) j (stack_of row) }
-{
-    must_be(row_at(rows, j), j, row)
-}
-
-// One after the other.
-fn hold_both(rows: &[Row], j: usize, k: usize, row: Row) -> Result<(), TableFault>
-    requires { is_row row ≡ true }
-    ensures { result ≡ all_there (meanings rows.now) ((j, stack_of row) ∷ (k, stack_of row) ∷ []) }
-{
-    hold(rows, j, row)?;
-    hold(rows, k, row)
-}
-
-// Each stack handed on must be the row of the instruction that it goes to, the label first.
-fn hold_all(rows: &[Row], i: usize, sent: Sent) -> Result<(), TableFault>
-    requires inside { i < length rows.now }
-    requires row { is_row sent.row ≡ true }
-    ensures { result ≡ all_there (meanings rows.now) (handed sent.way i (stack_of sent.row)) }
-{
-    match sent.way {
-        Way::Halt => Ok(()),
-        Way::Next => hold(rows, i + 1, sent.row),
-        Way::Jump(label) => hold(rows, label, sent.row),
-        Way::Fork(label) => hold_both(rows, label, i + 1, sent.row),
-    }
-}
-
-// What instruction i does with its row must break no stack rule, and hand its successors just their rows.
-fn check_step(table: Table<'_>, rows: &[Row], i: usize, row: Row) -> Result<(), TableFault>
-    requires checked { Checked (contents_of table) }
-    requires inside { i < length rows.now }
-    ensures { result ≡ step_right (contents_of table.entry) (meanings rows.now) i (meaning row) }
-{
-    if !row.is_reached() {
-        return Ok(());
-    }
-    match transfer(table, i, row) {
-        Err(breach) => Err(Flaw::Broken(breach).at(i)),
-        Ok(sent) => hold_all(rows, i, sent),
-    }
-}
-
-// The row with which a procedure begins must be its parameters.
-fn check_entry(table: Table<'_>, procedure: Procedure, i: usize, row: Row) -> Result<(), TableFault>
-    ensures { result ≡ must_be (meaning row) i (entry_of (contents_of table.entry) procedure).1 }
-{
-    // parameters that make no row are no row's
-    let Some(parameters) = entry_row(table, procedure) else {
-        return Err(Flaw::Differs.at(i));
-    };
-    must_be(row, i, parameters)
-}
-
-// A row must not exceed the cells that the procedure's ent allows.
-fn check_height(table: Table<'_>, i: usize, row: Row) -> Result<(), TableFault>
-    ensures { result ≡ low_enough (contents_of table.entry) i (meaning row) }
-{
-    if row.is_reached() && cells_of(row) > room_at(table, i) {
-        Err(Flaw::TooHigh.at(i))
-    } else {
+    // Every row, by the local rule at its instruction.
+    pub(crate) fn check_rows(&self) -> Result<(), TableFault>
+        ensures { result ≡ answer (admit (stacks (contents_of self.now.table)) (fit (contents_of self.now.table)) (meanings self.now.rows.now)) }
+    {
+        for (i, row) in self.rows.iter().enumerate() {
+            self.check_head(i, *row)?;
+            self.check_step(i, *row)?;
+        }
         Ok(())
     }
-}
 
-// A first instruction's row must be its procedure's parameters; any other must not be too high.
-fn check_head(table: Table<'_>, i: usize, row: Row) -> Result<(), TableFault>
-    ensures { result ≡ head_right (contents_of table.entry) i (meaning row) }
-{
-    let procedure = procedure_at(table, owner(table, i));
-    if procedure.first as usize == i {
-        check_entry(table, procedure, i, row)
-    } else {
-        check_height(table, i, row)
+    // A first instruction's row must be its procedure's parameters; any other must not be too high.
+    fn check_head(&self, i: usize, row: Row) -> Result<(), TableFault>
+        ensures { result ≡ head_right (contents_of self.now.table) i (meaning row) }
+    {
+        let procedure = procedure_at(self.table, owner(self.table, i));
+        if procedure.first as usize == i {
+            self.check_entry(procedure, i, row)
+        } else {
+            self.check_height(i, row)
+        }
     }
-}
 
-// The local rule at instruction i, with the row that is lent for it.
-pub(crate) fn check_at(table: Table<'_>, rows: &[Row], i: usize, row: Row) -> Result<(), TableFault>
-    requires checked { Checked (contents_of table) }
-    requires inside { i < length rows.now }
-    ensures { result ≡ right_at (contents_of table.entry) (meanings rows.now) i (meaning row) }
-{
-    check_head(table, i, row)?;
-    check_step(table, rows, i, row)
+    // The row with which a procedure begins must be its parameters.
+    fn check_entry(&self, procedure: Procedure, i: usize, row: Row) -> Result<(), TableFault>
+        ensures { result ≡ must_be (meaning row) i (entry_of (contents_of self.now.table) procedure).1 }
+    {
+        // parameters that make no row are the row of no instruction
+        let parameters = entry_row(self.table, procedure).ok_or(Flaw::Differs.at(i))?;
+        must_be(row, i, parameters)
+    }
+
+    // A row must not exceed the cells that the procedure's ent allows.
+    fn check_height(&self, i: usize, row: Row) -> Result<(), TableFault>
+        ensures { result ≡ low_enough (contents_of self.now.table) i (meaning row) }
+    {
+        if row.is_reached() && cells_of(row) > room_at(self.table, i) {
+            Err(Flaw::TooHigh.at(i))
+        } else {
+            Ok(())
+        }
+    }
+
+    // What instruction i does with its row must break no stack rule, and hand its successors just their rows.
+    fn check_step(&self, i: usize, row: Row) -> Result<(), TableFault>
+        requires { i < length self.now.rows.now }
+        ensures { result ≡ step_right (contents_of self.now.table) (meanings self.now.rows.now) i (meaning row) }
+    {
+        if !row.is_reached() {
+            return Ok(());
+        }
+        let sent = transfer(self.table, i, row).map_err(|breach| Flaw::Broken(breach).at(i))?;
+        self.hold_all(i, sent)
+    }
+
+    // Each stack handed on must be the row of the instruction that it goes to, the label first.
+    fn hold_all(&self, i: usize, sent: Sent) -> Result<(), TableFault>
+        requires inside { i < length self.now.rows.now }
+        requires row { is_row sent.row ≡ true }
+        ensures { result ≡ all_there (meanings self.now.rows.now) (handed sent.way i (stack_of sent.row)) }
+    {
+        match sent.way {
+            Way::Halt => Ok(()),
+            Way::Next => self.hold(i + 1, sent.row),
+            Way::Jump(label) => self.hold(label, sent.row),
+            Way::Fork(label) => self.hold_both(label, i + 1, sent.row),
+        }
+    }
+
+    // One after the other.
+    fn hold_both(&self, j: usize, k: usize, row: Row) -> Result<(), TableFault>
+        requires { is_row row ≡ true }
+        ensures { result ≡ all_there (meanings self.now.rows.now) ((j, stack_of row) ∷ (k, stack_of row) ∷ []) }
+    {
+        self.hold(j, row)?;
+        self.hold(k, row)
+    }
+
+    // Instruction j must have this row; none is lent past the end.
+    fn hold(&self, j: usize, row: Row) -> Result<(), TableFault>
+        requires { is_row row ≡ true }
+        ensures { result ≡ must_be (row_at (meanings self.now.rows.now) j) j (stack_of row) }
+    {
+        let found = self.rows.get(j).copied().unwrap_or(Row::unreached());
+        must_be(found, j, row)
+    }
 }

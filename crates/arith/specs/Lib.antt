@@ -1,5 +1,4 @@
 pub mod Answers
-pub mod Payloads
 pub mod Quotients
 pub mod Integers
 pub mod Reals

@@ -21,7 +21,7 @@ use Rattle.sheet.specs.declared.value.Value.TheVariants.{Address, Boolean, Chara
 use Rattle.sheet.specs.Kinds.{is_value}
 use Rattle.arith.specs.Answers.{Answer, ◌>>=◌}
 use Rattle.arith.specs.Integers.{integer_of, integer_arithmetic, integer_checked, character_of}
-use Rattle.arith.specs.Payloads.{address_in, boolean_in, character_in, integer_in, real_in}
+use Rattle.sheet.specs.Payloads.{address_in, boolean_in, character_in, integer_in, real_in}
 use Rattle.arith.specs.Reals.{real_of, real_arithmetic, of_integer, whole_part}
 use Rattle.arith.specs.Relations.{relation}
 

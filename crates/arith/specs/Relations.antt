@@ -11,7 +11,7 @@ use Rattle.sheet.specs.declared.operation.Relation.{Relation}
 use Rattle.sheet.specs.declared.operation.Relation.TheVariants.{Equal, Unequal, Less, LessOrEqual, Greater, GreaterOrEqual}
 use Rattle.sheet.specs.declared.value.Value.{Value}
 use Rattle.arith.specs.Answers.{Answer, ◌>>=◌}
-use Rattle.arith.specs.Payloads.{address_in, boolean_in, character_in, integer_in, real_in}
+use Rattle.sheet.specs.Payloads.{address_in, boolean_in, character_in, integer_in, real_in}
 
 abbrev pub eqZ : ℤ → ℤ → Bool
 eqZ (pos a) (pos b) = a == b

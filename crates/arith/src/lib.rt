@@ -3,9 +3,7 @@
 
 pub mod division;
 mod exact;
-mod ieee;
 pub mod operation;
-pub mod payload;
 pub mod real;
 mod relation;
 mod rounded;

@@ -1,9 +1,8 @@
 // The operations on values: kinds are tested first, then each operation is the one of its kind.
-ghost use Rattle.std.specs.Prelude.{◌≡◌};
-ghost use Rattle.arith.specs.Operations.{arithmetic, binary_result, conversion, decrement, increment, index, negation, unary_result, Proper};
+ghost use Rattle.std.specs.Prelude.{◌≡◌, ◌^◌, ◌≤ℤ◌, pos, negsuc};
+ghost use Rattle.arith.specs.Operations.{arithmetic, binary_result, conversion, increment, index, negation, unary_result, Proper};
 ghost use Rattle.arith.specs.Relations.{relation};
 
-use crate::payload::{address_in, boolean_in, character_in, integer_in, real_in};
 use crate::real::real_from_integer;
 use crate::relation::{integers_stand, reals_stand};
 use crate::{exact, rounded};
@@ -21,13 +20,13 @@ pub fn binary(op: Binary, lower: Value, top: Value) -> Result<Value, Stop>
     match op {
         Binary::Arithmetic(op, numeric) => computed(op, numeric, lower, top),
         Binary::And => {
-            let left = boolean_in(lower)?;
-            let right = boolean_in(top)?;
+            let left = bool::try_from(lower)?;
+            let right = bool::try_from(top)?;
             Ok(Value::Boolean(left && right))
         }
         Binary::Or => {
-            let left = boolean_in(lower)?;
-            let right = boolean_in(top)?;
+            let left = bool::try_from(lower)?;
+            let right = bool::try_from(top)?;
             Ok(Value::Boolean(left || right))
         }
         Binary::Compare(how, kind) => Ok(Value::Boolean(compared(how, kind, lower, top)?)),
@@ -41,26 +40,27 @@ pub fn unary(op: Unary, x: Value) -> Result<Value, Stop>
 {
     match op {
         Unary::Negate(numeric) => negated(numeric, x),
-        Unary::Not => Ok(Value::Boolean(!boolean_in(x)?)),
-        Unary::Increment(ordinal, q) => incremented(ordinal, q, x),
-        Unary::Decrement(ordinal, q) => decremented(ordinal, q, x),
-        Unary::Check(p, q) => Ok(Value::Integer(exact::checked(p, q, integer_in(x)?)?)),
+        Unary::Not => Ok(Value::Boolean(!bool::try_from(x)?)),
+        Unary::Increment(ordinal, q) => stepped(ordinal, i128::from(q), x),
+        Unary::Decrement(ordinal, q) => stepped(ordinal, -i128::from(q), x),
+        Unary::Check(p, q) => Ok(Value::Integer(exact::checked(p, q, i32::try_from(x)?)?)),
         Unary::Convert(conversion) => converted(conversion, x),
     }
 }
 
+// Here and below each operand is taken by a line of its own, the lower first, which shows whose refusal comes first.
 fn computed(op: Arithmetic, numeric: Numeric, lower: Value, top: Value) -> Result<Value, Stop>
     ensures { result ≡ arithmetic op numeric lower top }
 {
     match numeric {
         Numeric::Integer => {
-            let left = integer_in(lower)?;
-            let right = integer_in(top)?;
+            let left = i32::try_from(lower)?;
+            let right = i32::try_from(top)?;
             Ok(Value::Integer(exact::arithmetic(op, left, right)?))
         }
         Numeric::Real => {
-            let left = real_in(lower)?;
-            let right = real_in(top)?;
+            let left = f64::try_from(lower)?;
+            let right = f64::try_from(top)?;
             Ok(Value::Real(rounded::arithmetic(op, left, right)?))
         }
     }
@@ -72,28 +72,28 @@ fn compared(how: Relation, kind: Kind, lower: Value, top: Value) -> Result<bool,
 {
     match kind {
         Kind::Address => {
-            let left = address_in(lower)?;
-            let right = address_in(top)?;
+            let left = StorePlace::try_from(lower)?;
+            let right = StorePlace::try_from(top)?;
             Ok(integers_stand(how, left.0, right.0))
         }
         Kind::Boolean => {
-            let left = boolean_in(lower)?;
-            let right = boolean_in(top)?;
+            let left = bool::try_from(lower)?;
+            let right = bool::try_from(top)?;
             Ok(integers_stand(how, i32::from(left), i32::from(right)))
         }
         Kind::Character => {
-            let left = character_in(lower)?;
-            let right = character_in(top)?;
+            let left = u8::try_from(lower)?;
+            let right = u8::try_from(top)?;
             Ok(integers_stand(how, i32::from(left), i32::from(right)))
         }
         Kind::Integer => {
-            let left = integer_in(lower)?;
-            let right = integer_in(top)?;
+            let left = i32::try_from(lower)?;
+            let right = i32::try_from(top)?;
             Ok(integers_stand(how, left, right))
         }
         Kind::Real => {
-            let left = real_in(lower)?;
-            let right = real_in(top)?;
+            let left = f64::try_from(lower)?;
+            let right = f64::try_from(top)?;
             Ok(reals_stand(how, left, right))
         }
     }
@@ -102,8 +102,8 @@ fn compared(how: Relation, kind: Kind, lower: Value, top: Value) -> Result<bool,
 fn indexed(q: i32, lower: Value, top: Value) -> Result<Value, Stop>
     ensures { result ≡ index q lower top }
 {
-    let address = address_in(lower)?;
-    let i = integer_in(top)?;
+    let address = StorePlace::try_from(lower)?;
+    let i = i32::try_from(top)?;
     let place = exact::indexed(address.0, i, q)?;
     Ok(Value::Address(StorePlace(place)))
 }
@@ -112,42 +112,30 @@ fn negated(numeric: Numeric, x: Value) -> Result<Value, Stop>
     ensures { result ≡ negation numeric x }
 {
     match numeric {
-        Numeric::Integer => Ok(Value::Integer(exact::negation(integer_in(x)?)?)),
-        Numeric::Real => Ok(Value::Real(rounded::negation(real_in(x)?)?)),
+        Numeric::Integer => Ok(Value::Integer(exact::negation(i32::try_from(x)?)?)),
+        Numeric::Real => Ok(Value::Real(rounded::negation(f64::try_from(x)?)?)),
     }
 }
 
-fn incremented(ordinal: Ordinal, q: i32, x: Value) -> Result<Value, Stop>
-    ensures { result ≡ increment ordinal q x }
+// The value that is `amount` more.
+fn stepped(ordinal: Ordinal, amount: i128, x: Value) -> Result<Value, Stop>
+    requires low { negsuc (2 ^ 32) ≤ℤ amount }
+    requires high { amount ≤ℤ pos (2 ^ 32) }
+    ensures { result ≡ increment ordinal amount x }
 {
     match ordinal {
         Ordinal::Address => {
-            let address = address_in(x)?;
-            let place = exact::sum(address.0, q)?;
+            let place = exact::narrowed(i128::from(StorePlace::try_from(x)?.0) + amount)?;
             Ok(Value::Address(StorePlace(place)))
         }
         Ordinal::Character => {
-            let number = i128::from(character_in(x)?) + i128::from(q);
+            let number = i128::from(u8::try_from(x)?) + amount;
             Ok(Value::Character(exact::character(number)?))
         }
-        Ordinal::Integer => Ok(Value::Integer(exact::sum(integer_in(x)?, q)?)),
-    }
-}
-
-fn decremented(ordinal: Ordinal, q: i32, x: Value) -> Result<Value, Stop>
-    ensures { result ≡ decrement ordinal q x }
-{
-    match ordinal {
-        Ordinal::Address => {
-            let address = address_in(x)?;
-            let place = exact::difference(address.0, q)?;
-            Ok(Value::Address(StorePlace(place)))
+        Ordinal::Integer => {
+            let number = i128::from(i32::try_from(x)?) + amount;
+            Ok(Value::Integer(exact::narrowed(number)?))
         }
-        Ordinal::Character => {
-            let number = i128::from(character_in(x)?) - i128::from(q);
-            Ok(Value::Character(exact::character(number)?))
-        }
-        Ordinal::Integer => Ok(Value::Integer(exact::difference(integer_in(x)?, q)?)),
     }
 }
 
@@ -155,11 +143,11 @@ fn converted(how: Conversion, x: Value) -> Result<Value, Stop>
     ensures { result ≡ conversion how x }
 {
     match how {
-        Conversion::IntegerToReal => Ok(Value::Real(real_from_integer(integer_in(x)?))),
-        Conversion::RealToInteger => Ok(Value::Integer(rounded::whole_part(real_in(x)?)?)),
-        Conversion::CharacterToInteger => Ok(Value::Integer(i32::from(character_in(x)?))),
+        Conversion::IntegerToReal => Ok(Value::Real(real_from_integer(i32::try_from(x)?))),
+        Conversion::RealToInteger => Ok(Value::Integer(rounded::whole_part(f64::try_from(x)?)?)),
+        Conversion::CharacterToInteger => Ok(Value::Integer(i32::from(u8::try_from(x)?))),
         Conversion::IntegerToCharacter => {
-            let number = i128::from(integer_in(x)?);
+            let number = i128::from(i32::try_from(x)?);
             Ok(Value::Character(exact::character(number)?))
         }
     }

@@ -1,4 +1,4 @@
-// The six relations.
+// The six relations. Twice, since over PartialOrd the promise would be of partial_cmp, and not of each comparison by IEEE 754.
 ghost use Rattle.std.specs.Prelude.{◌≡◌};
 ghost use Rattle.arith.specs.Relations.{integer_relation, real_relation};
 

@@ -4,7 +4,6 @@ ghost use Rattle.std.specs.Float.Ieee as Ieee;
 ghost use Rattle.arith.specs.Reals.{real_of, real_arithmetic, whole_part};
 
 use crate::exact::narrowed;
-use crate::ieee::{finite, to_whole};
 use sheet::operation::Arithmetic;
 use sheet::stop::Stop;
 
@@ -36,4 +35,17 @@ pub fn whole_part(x: f64) -> Result<i32, Stop>
 {
     let x = finite(x)?;
     narrowed(i128::from(to_whole(x)))
+}
+
+// The fraction is dropped, and what lies past 64 bits stops at their ends. By itself: inline, the check found no proof of the whole part.
+fn to_whole(x: f64) -> i64
+    ensures { result ≡ Ieee.to_signed 63 x }
+{
+    std::num::saturating_f64_to_i64(x)
+}
+
+fn finite(x: f64) -> Result<f64, Stop>
+    ensures { result ≡ real_of x }
+{
+    x.is_finite().then_some(x).ok_or(Stop::OutsideKind)
 }

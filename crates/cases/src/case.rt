@@ -18,10 +18,7 @@ pub struct Case<'a> {
 }
 
 fn read_count(word: Option<&str>) -> Option<usize> {
-    match word?.parse::<usize>() {
-        Ok(n) => Some(n),
-        Err(_) => None,
-    }
+    word?.parse().ok()
 }
 
 fn read_extent(words: &mut SplitWhitespace<'_>) -> Option<Extent> {
@@ -39,13 +36,10 @@ pub fn read_case(line: &str) -> Option<Case<'_>> {
     let mut words = line.split_whitespace();
     let name = words.next()?;
     let room = read_extent(&mut words)?;
-    let recipe = match read_extent(&mut words) {
-        Some(lines) => {
-            let tail = words.next().unwrap_or("");
-            Some(Recipe { lines, tail })
-        }
-        None => None,
-    };
+    let recipe = read_extent(&mut words).map(|lines| Recipe {
+        lines,
+        tail: words.next().unwrap_or(""),
+    });
     Some(Case { name, room, recipe })
 }
 

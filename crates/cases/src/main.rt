@@ -10,8 +10,9 @@ mod outcome;
 mod values;
 
 use crate::case::{Case, read_case, read_value_case};
-use crate::outcome::{Outcome, try_table};
+use crate::outcome::try_table;
 use crate::values::{ValueOutcome, try_values};
+use columns::table_text::Extent;
 use lister::text::list_table;
 use std::io::Write;
 use std::{fs, io};
@@ -30,14 +31,14 @@ fn show(rt: &HostRuntime, case: Case<'_>) -> io::Result<()> {
         Some(recipe) => recipe.text(heap)?.into_bytes(),
         None => fs::read(rt, format!(in heap; "{name}.txt")?)?,
     };
-    let Outcome {
-        number,
-        place,
-        untouched,
-    } = try_table(heap, &text, case.room)?;
-    let p = untouched.procedures;
-    let d = untouched.cells;
-    let i = untouched.code;
+    let outcome = try_table(heap, &text, case.room)?;
+    let number = outcome.number();
+    let place = outcome.place();
+    let Extent {
+        procedures: p,
+        cells: d,
+        code: i,
+    } = outcome.untouched;
     println!(rt; "{name:<41}{number:>6}{place:>7}{p:>11}{d:>7}{i:>7}")
 }
 
@@ -52,13 +53,21 @@ fn show_values(rt: &HostRuntime, name: &str, room: usize) -> io::Result<()> {
     let heap = rt.alloc();
     let text = fs::read(rt, format!(in heap; "{name}.txt")?)?;
     let ValueOutcome {
-        number,
-        place,
+        answer,
         untouched,
-        back,
+        writes_back,
     } = try_values(heap, &text, room)?;
-    let line = format!(in heap; "{name:<41}{number:>6}{place:>7}{untouched:>8}  {back}")?;
-    println!(rt; "{}", line.as_str().trim_end())
+    match answer {
+        Ok(count) => {
+            let back = if writes_back { "same" } else { "differs" };
+            println!(rt; "{name:<41}{:>6}{count:>7}{untouched:>8}  {back}", 0)
+        }
+        Err(fault) => {
+            let number = fault.number();
+            let line = fault.line();
+            println!(rt; "{name:<41}{number:>6}{line:>7}{untouched:>8}")
+        }
+    }
 }
 
 fn list(rt: &HostRuntime, name: &str) -> io::Result<()> {

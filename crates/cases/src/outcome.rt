@@ -11,12 +11,33 @@ use sheet::mnemonic::Mnemonic;
 use sheet::procedure::Procedure;
 use std::alloc::{AllocError, Global};
 
-// The number and the place of the verdict, and how many places of each list still hold what they held before.
+// The answer, and how many places of each list still hold what they held before.
 #[derive(Clone, Copy, Drop)]
 pub struct Outcome {
-    pub number: u8,
-    pub place: usize,
+    pub answer: Result<Extent, TextFault>,
     pub untouched: Extent,
+}
+
+impl Outcome {
+    // 0 where the text was read.
+    pub fn number(self) -> u8
+        ensures { result ≡ number_of self.answer }
+    {
+        match self.answer {
+            Ok(_) => 0,
+            Err(fault) => fault.number(),
+        }
+    }
+
+    // The count of instructions, or the line refused.
+    pub fn place(self) -> usize
+        ensures { result ≡ place_of self.answer }
+    {
+        match self.answer {
+            Ok(extent) => extent.code,
+            Err(fault) => fault.line(),
+        }
+    }
 }
 
 // What every place holds before: no text lays such records, but for cells of kind a.
@@ -41,47 +62,12 @@ const INSTRUCTION: Instruction = Instruction {
 
 // How many of the list equal x.
 fn count<T: PartialEq>(list: &[T], x: &T) -> usize {
-    let mut n: usize = 0;
-    for y in list {
-        if y == x {
-            n = n.saturating_add(1);
-        }
-    }
-    n
-}
-
-fn count_code(code: &[Instruction]) -> usize {
-    let mut n: usize = 0;
-    for x in code {
-        if x.p == INSTRUCTION.p && x.q == INSTRUCTION.q && x.mnemonic.name() == *b"conv" {
-            n = n.saturating_add(1);
-        }
-    }
-    n
-}
-
-fn number_of(answer: Result<Extent, TextFault>) -> u8
-    ensures { result ≡ number_of answer }
-{
-    match answer {
-        Ok(_) => 0,
-        Err(fault) => fault.number(),
-    }
-}
-
-fn place_of(answer: Result<Extent, TextFault>) -> usize
-    ensures { result ≡ place_of answer }
-{
-    match answer {
-        Ok(extent) => extent.code,
-        Err(fault) => fault.line(),
-    }
+    list.iter().filter(|y| *y == x).count()
 }
 
 // Reads a text into lists of these lengths.
 pub fn try_table(heap: Global, text: &[u8], room: Extent) -> Result<Outcome, AllocError>
-    ensures number { IfOk result (λ o. o.number ≡ number_of (answered (read_table room text.now))) }
-    ensures place { IfOk result (λ o. o.place ≡ place_of (answered (read_table room text.now))) }
+    ensures { IfOk result (λ o. o.answer ≡ answered (read_table room text.now)) }
 {
     let mut procedures = vec![in heap; PROCEDURE; room.procedures]?;
     let mut cells = vec![in heap; CELL; room.cells]?;
@@ -90,11 +76,7 @@ pub fn try_table(heap: Global, text: &[u8], room: Extent) -> Result<Outcome, All
     let untouched = Extent {
         procedures: count(&procedures, &PROCEDURE),
         cells: count(&cells, &CELL),
-        code: count_code(&code),
+        code: count(&code, &INSTRUCTION),
     };
-    Ok(Outcome {
-        number: number_of(answer),
-        place: place_of(answer),
-        untouched,
-    })
+    Ok(Outcome { answer, untouched })
 }

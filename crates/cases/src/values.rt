@@ -1,4 +1,8 @@
 // How a text of values is answered, what is left of the list, and whether its values write back as they stood.
+ghost use Rattle.std.specs.Prelude.{◌≡◌, IfOk, length};
+ghost use Rattle.columns.specs.ValueText.{read_values, how_many};
+
+use columns::fault::TextFault;
 use columns::value_line::write_value;
 use columns::value_text::read_values;
 use sheet::place::StorePlace;
@@ -7,68 +11,39 @@ use std::alloc::{AllocError, Global};
 
 #[derive(Clone, Copy, Drop)]
 pub struct ValueOutcome {
-    pub number: u8,
-    pub place: usize,
-    pub untouched: usize,
-    pub back: &'static str,
+    pub answer: Result<usize, TextFault>,
+    pub untouched: usize, // how many places still hold what they held before
+    pub writes_back: bool, // of a text that is refused it says nothing
 }
 
 // What every place holds before: no text lays an address.
 const BLANK: Value = Value::Address(StorePlace(0));
 
-fn is_blank(value: Value) -> bool {
-    match value {
-        Value::Address(_) => true,
-        _ => false,
-    }
-}
-
-fn count_blank(values: &[Value]) -> usize {
-    let mut n: usize = 0;
-    for value in values {
-        if is_blank(*value) {
-            n = n.saturating_add(1);
-        }
-    }
-    n
+fn is_blank(value: &Value) -> bool {
+    matches!(value, Value::Address(_))
 }
 
 fn written(heap: Global, values: &[Value]) -> Result<Vec<u8>, AllocError> {
     let mut text = Vec::new(heap);
     for value in values {
-        if !is_blank(*value) {
+        if !is_blank(value) {
             text.extend_from_slice(&write_value(*value))?;
         }
     }
     Ok(text)
 }
 
-fn same_bytes(a: &[u8], b: &[u8]) -> bool {
-    a == b
-}
-
 // Reads a text into a list of this length.
-pub fn try_values(heap: Global, text: &[u8], room: usize) -> Result<ValueOutcome, AllocError> {
+pub fn try_values(heap: Global, text: &[u8], room: usize) -> Result<ValueOutcome, AllocError>
+    ensures { IfOk result (λ o. o.answer ≡ how_many (read_values room text.now)) }
+{
     let mut values = vec![in heap; BLANK; room]?;
     let answer = read_values(text, &mut values);
-    let untouched = count_blank(&values);
+    let untouched = values.iter().filter(|value| is_blank(value)).count();
     let back = written(heap, &values)?;
-    match answer {
-        Ok(count) => Ok(ValueOutcome {
-            number: 0,
-            place: count,
-            untouched,
-            back: if same_bytes(&back, text) {
-                "same"
-            } else {
-                "differs"
-            },
-        }),
-        Err(fault) => Ok(ValueOutcome {
-            number: fault.number(),
-            place: fault.line(),
-            untouched,
-            back: "",
-        }),
-    }
+    Ok(ValueOutcome {
+        answer,
+        untouched,
+        writes_back: back.as_slice() == text,
+    })
 }

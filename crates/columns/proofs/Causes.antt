@@ -1,11 +1,10 @@
 -- Every refusal has its cause.
 use Rattle.std.proofs.Common.{◌≡◌, ℕ, ◌+◌, Bool, true, false, cond, List, [], ◌∷◌, ◌++◌, Some, None, Ok, Option, refl, ap, subst, arith}
 use Rattle.columns.specs.declared.table_text.Extent.{Extent}
-use Rattle.columns.specs.declared.table_text.Scan.TheVariants.{Form, Order, Room}
 use Rattle.columns.specs.declared.fault.TextFault.TheVariants.{Malformed, Misplaced, TooLong}
 use Rattle.columns.specs.Faults.{refuse}
 use Rattle.columns.specs.Scans.{first_failing}
-use Rattle.columns.specs.TableText.{lines_of, counted, start, passes, first_fault, read_by}
+use Rattle.columns.specs.TableText.{Form, Order, Room, lines_of, counted, start, passes, first_fault, read_by}
 use Rattle.columns.specs.Causes.{tally, AllPass, FirstToFail, Clear, Justified, RefusedForCause}
 
 module _ {C X : Type 0} (count : C → X → C) (test : C → X → Bool) where

@@ -1,22 +1,41 @@
 -- Laying a text's records into the lists: what is left to lay gives the whole.
-use Rattle.std.proofs.Common.{◌≡◌, ℕ, suc, ◌+◌, ◌<◌, ◌≤◌, Bool, true, false, cond, List, [], ◌∷◌, map, length, set, Some, None, Ok, Err, sym, refl, ap, ◌∙◌, subst, arith}
+use Rattle.std.proofs.Common.{◌≡◌, ℕ, suc, ◌+◌, ◌<◌, ◌≤◌, Bool, true, false, cond, List, [], ◌∷◌, map, length, take, set, Some, None, Ok, Err, refl, ap, ◌∙◌, arith}
+use Rattle.std.specs.List.{prefix_len}
 use Rattle.std.proofs.lemmas.Bool.Decides.{nat_tests}
+use Rattle.std.proofs.lemmas.List.Folds.{length-prefix_len}
 use Rattle.numerals.specs.Lines.{lines}
 use Rattle.sheet.specs.declared.kind.Kind.{Kind}
 use Rattle.sheet.specs.declared.procedure.Procedure.{Procedure}
 use Rattle.sheet.specs.declared.instruction.Instruction.{Instruction}
 use Rattle.columns.specs.declared.line.Line.TheVariants as line
 use Rattle.columns.specs.declared.table_text.Counts.{Counts}
-use Rattle.columns.specs.declared.table_text.Extent.{Extent}
-use Rattle.columns.specs.declared.table_text.Scan.TheVariants.{Order}
 use Rattle.columns.specs.Scans.{first_failing, laid}
 use Rattle.columns.specs.TableLines.{read_line}
-use Rattle.columns.specs.TableText.{Said, counted, in_order, passes, start, lines_of, own_cells, procedures_of, cells_of, code_of, first_fault, contents, extent_of}
-use Rattle.columns.specs.Laying.{with_procedure, with_cell, with_code}
+use Rattle.columns.specs.TableText.{Order, Said, counted, in_order, passes, start, lines_of, own_cells, procedures_of, cells_of, code_of, first_fault}
 
-pub own_done : (s : List ℕ) (n k : ℕ) → length s ≡ 0 → own_cells (lines_of s) + n ≡ k → n ≡ k
-own_done [] n k e h = omega arith
-own_done (b ∷ s) n k e h = grind arith
+-- ---- the cell lines that come first
+abbrev is_cell : Said → Bool
+is_cell (Ok (line.Procedure h)) = false
+is_cell (Ok (line.Cell t)) = true
+is_cell (Ok (line.Code n i)) = false
+is_cell (Err e) = false
+
+abbrev pub says_cell : List ℕ → Bool
+says_cell l = is_cell (read_line l)
+
+cells_first : (xs : List Said) → prefix_len is_cell xs ≡ own_cells xs
+cells_first [] = refl
+cells_first (Ok (line.Procedure h) ∷ xs) = refl
+cells_first (Ok (line.Cell t) ∷ xs) = omega (arith, cells_first xs)
+cells_first (Ok (line.Code n i) ∷ xs) = refl
+cells_first (Err e ∷ xs) = refl
+
+mapped : (ls : List (List ℕ)) → prefix_len says_cell ls ≡ prefix_len is_cell (map read_line ls)
+mapped [] = refl
+mapped (l ∷ ls) = ap (λ n. cond (says_cell l) (1 + n) 0) (mapped ls)
+
+pub cells_before : (text : List ℕ) → length (take (prefix_len says_cell (lines text)) (lines text)) ≡ own_cells (lines_of text)
+cells_before text = length-prefix_len says_cell (lines text) ∙ mapped (lines text) ∙ cells_first (lines_of text)
 
 -- ---- a text whose lines are in order
 abbrev pub Orderly : Counts → List Said → Type 0
@@ -72,122 +91,30 @@ over_laid (x ∷ xs) (y ∷ ys) = over_cons 0 xs x ys ∙ ap (λ zs. x ∷ zs) (
 pub record Laying (xs : List Said) (whole : List Said) (ps₀ : List Procedure) (ts₀ : List Kind) (is₀ : List Instruction) (c : Counts) (ps : List Procedure) (ts : List Kind) (is : List Instruction) : Type 0 where
   pub ordered : Orderly c xs
   pub few : c.own ≤ 250
-  pub procedures : over c.total.procedures (procedures_of c.total.cells xs) ps ≡ over 0 (procedures_of 0 whole) ps₀
-  pub cells : over c.total.cells (cells_of xs) ts ≡ over 0 (cells_of whole) ts₀
-  pub code : over c.total.code (code_of xs) is ≡ over 0 (code_of whole) is₀
+  pub procedures : over c.total.procedures (procedures_of c.total.cells xs) ps ≡ laid (procedures_of 0 whole) ps₀
+  pub cells : over c.total.cells (cells_of xs) ts ≡ laid (cells_of whole) ts₀
+  pub code : over c.total.code (code_of xs) is ≡ laid (code_of whole) is₀
   pub how_many_procedures : c.total.procedures + length (procedures_of c.total.cells xs) ≡ length (procedures_of 0 whole)
   pub how_many_cells : c.total.cells + length (cells_of xs) ≡ length (cells_of whole)
   pub how_much_code : c.total.code + length (code_of xs) ≡ length (code_of whole)
 
-one_laid : (x : Said) (xs whole : List Said) (ps₀ : List Procedure) (ts₀ : List Kind) (is₀ : List Instruction) (c : Counts) (ps : List Procedure) (ts : List Kind) (is : List Instruction)
-    → Laying (x ∷ xs) whole ps₀ ts₀ is₀ c ps ts is
-    → Laying xs whole ps₀ ts₀ is₀ (counted c x) (with_procedure x c (own_cells xs) ps) (with_cell x c ts) (with_code x c is)
-one_laid (Ok (line.Procedure h)) xs whole ps₀ ts₀ is₀ c ps ts is l = record {
-  ordered = l.ordered.1;
-  few = omega arith;
-  procedures = l.procedures;
-  cells = l.cells;
-  code = l.code;
-  how_many_procedures = omega (arith, l.how_many_procedures);
-  how_many_cells = l.how_many_cells;
-  how_much_code = l.how_much_code;
-}
-one_laid (Ok (line.Cell t)) xs whole ps₀ ts₀ is₀ c ps ts is l = record {
-  ordered = l.ordered.1;
-  few = counted_few c (Ok (line.Cell t)) l.ordered.0 l.few;
-  procedures = l.procedures;
-  cells = l.cells;
-  code = l.code;
-  how_many_procedures = l.how_many_procedures;
-  how_many_cells = omega (arith, l.how_many_cells);
-  how_much_code = l.how_much_code;
-}
-one_laid (Ok (line.Code m i)) xs whole ps₀ ts₀ is₀ c ps ts is l = record {
-  ordered = l.ordered.1;
-  few = l.few;
-  procedures = l.procedures;
-  cells = l.cells;
-  code = l.code;
-  how_many_procedures = l.how_many_procedures;
-  how_many_cells = l.how_many_cells;
-  how_much_code = omega (arith, l.how_much_code);
-}
-one_laid (Err e) xs whole ps₀ ts₀ is₀ c ps ts is l = record {
-  ordered = l.ordered.1;
-  few = l.few;
-  procedures = l.procedures;
-  cells = l.cells;
-  code = l.code;
-  how_many_procedures = l.how_many_procedures;
-  how_many_cells = l.how_many_cells;
-  how_much_code = l.how_much_code;
-}
-
--- one line of the text on
-pub laid_more : (rest l after : List ℕ) (x : Said) (whole : List Said) (ps₀ ps ps' : List Procedure) (ts₀ ts ts' : List Kind) (is₀ is is' : List Instruction) (c d : Counts)
-    → lines rest ≡ l ∷ lines after → x ≡ read_line l → d ≡ counted c x
-    → ps' ≡ with_procedure x c (own_cells (lines_of after)) ps → ts' ≡ with_cell x c ts → is' ≡ with_code x c is
-    → Laying (lines_of rest) whole ps₀ ts₀ is₀ c ps ts is → Laying (lines_of after) whole ps₀ ts₀ is₀ d ps' ts' is'
-laid_more rest l after x whole ps₀ ps ps' ts₀ ts ts' is₀ is is' c d h e f p t i was =
-    let split : lines_of rest ≡ x ∷ lines_of after = ap (map read_line) h ∙ ap (λ y. y ∷ lines_of after) (sym e) in
-    let here : Laying (x ∷ lines_of after) whole ps₀ ts₀ is₀ c ps ts is = subst (λ (xs : List Said). Laying xs whole ps₀ ts₀ is₀ c ps ts is) split was in
-    let next = one_laid x (lines_of after) whole ps₀ ts₀ is₀ c ps ts is here in
-    subst (λ (z : Counts). Laying (lines_of after) whole ps₀ ts₀ is₀ z ps' ts' is') (sym f)
-    (subst (λ (z : List Procedure). Laying (lines_of after) whole ps₀ ts₀ is₀ (counted c x) z ts' is') (sym p)
-    (subst (λ (z : List Kind). Laying (lines_of after) whole ps₀ ts₀ is₀ (counted c x) (with_procedure x c (own_cells (lines_of after)) ps) z is') (sym t)
-    (subst (λ (z : List Instruction). Laying (lines_of after) whole ps₀ ts₀ is₀ (counted c x) (with_procedure x c (own_cells (lines_of after)) ps) (with_cell x c ts) z) (sym i) next)))
-
 -- the procedure at hand has few enough cells left
-pub cells_fit : (rest l after : List ℕ) (whole : List Said) (ps₀ ps : List Procedure) (ts₀ ts : List Kind) (is₀ is : List Instruction) (c : Counts)
-    → lines rest ≡ l ∷ lines after → Laying (lines_of rest) whole ps₀ ts₀ is₀ c ps ts is → own_cells (lines_of after) < 65536
-cells_fit rest l after whole ps₀ ps ts₀ ts is₀ is c h was =
-    let next = laid_more rest l after (read_line l) whole ps₀ ps _ ts₀ ts _ is₀ is _ c _ h refl refl refl refl refl was in
-    omega (arith, few_cells (counted c (read_line l)) (lines_of after) next.ordered next.few)
+pub cells_fit : (c : Counts) (x : Said) (xs : List Said) → Orderly c (x ∷ xs) → c.own ≤ 250 → own_cells xs < 65536
+cells_fit c x xs o h = omega (arith, few_cells (counted c x) xs o.1 (counted_few c x o.0 h))
 
 pub laid_none : (text : List ℕ) (ps : List Procedure) (ts : List Kind) (is : List Instruction) → first_fault Order text ≡ None
     → Laying (lines_of text) (lines_of text) ps ts is start ps ts is
 laid_none text ps ts is h = record {
   ordered = orderly start 1 (lines_of text) h;
   few = omega arith;
-  procedures = refl;
-  cells = refl;
-  code = refl;
+  procedures = over_laid (procedures_of 0 (lines_of text)) ps;
+  cells = over_laid (cells_of (lines_of text)) ts;
+  code = over_laid (code_of (lines_of text)) is;
   how_many_procedures = omega arith;
   how_many_cells = omega arith;
   how_much_code = omega arith;
 }
 
--- nothing is left
-pub record Laid (text : List ℕ) (ps₀ ps : List Procedure) (ts₀ ts : List Kind) (is₀ is : List Instruction) (r : Extent) : Type 0 where
-  pub procedures : ps ≡ laid (procedures_of 0 (lines_of text)) ps₀
-  pub cells : ts ≡ laid (cells_of (lines_of text)) ts₀
-  pub code : is ≡ laid (code_of (lines_of text)) is₀
-  pub extent : r ≡ extent_of (contents (lines_of text))
-
-same_extent : (r s : Extent) → r.procedures ≡ s.procedures → r.cells ≡ s.cells → r.code ≡ s.code → r ≡ s
-same_extent r s p q t =
-    let of : ℕ → ℕ → ℕ → Extent = λ a b c. record { procedures = a; cells = b; code = c } in
-    ap (λ a. of a r.cells r.code) p ∙ ap (λ b. of s.procedures b r.code) q ∙ ap (λ c. of s.procedures s.cells c) t
-
-pub laid_all : (rest text : List ℕ) (ps₀ ps : List Procedure) (ts₀ ts : List Kind) (is₀ is : List Instruction) (c : Counts)
-    → length rest ≡ 0 → Laying (lines_of rest) (lines_of text) ps₀ ts₀ is₀ c ps ts is → Laid text ps₀ ps ts₀ ts is₀ is c.total
-laid_all [] text ps₀ ps ts₀ ts is₀ is c e l = record {
-  procedures = l.procedures ∙ over_laid (procedures_of 0 (lines_of text)) ps₀;
-  cells = l.cells ∙ over_laid (cells_of (lines_of text)) ts₀;
-  code = l.code ∙ over_laid (code_of (lines_of text)) is₀;
-  extent = same_extent c.total (extent_of (contents (lines_of text))) (omega (arith, l.how_many_procedures)) (omega (arith, l.how_many_cells)) (omega (arith, l.how_much_code));
-}
-laid_all (b ∷ rest) text ps₀ ps ts₀ ts is₀ is c e l = grind arith
-
--- every record counted took a byte of the text at least: `left` bytes of `all` are left
+-- every record counted took a line of `all` at least, and `left` are left
 abbrev pub Short : Counts → (left all : ℕ) → Type 0
 Short c left all = (c.total.procedures + left ≤ all) × (c.total.cells + left ≤ all) × (c.total.code + left ≤ all)
-
-shorter : (c : Counts) (x : Said) (line rest left all : ℕ) → 0 < line → line + rest ≡ left → Short c left all → Short (counted c x) rest all
-shorter c (Ok (line.Procedure h)) l rest left all p e (a, b, d) = (omega arith, omega arith, omega arith)
-shorter c (Ok (line.Cell t)) l rest left all p e (a, b, d) = (omega arith, omega arith, omega arith)
-shorter c (Ok (line.Code m i)) l rest left all p e (a, b, d) = (omega arith, omega arith, omega arith)
-shorter c (Err f) l rest left all p e (a, b, d) = (omega arith, omega arith, omega arith)
-
-pub still_short : (c d : Counts) (x : Said) (line rest left all : ℕ) → d ≡ counted c x → 0 < line → line + rest ≡ left → Short c left all → Short d rest all
-still_short c d x line rest left all e p q s = subst (λ (z : Counts). Short z rest all) (sym e) (shorter c x line rest left all p q s)

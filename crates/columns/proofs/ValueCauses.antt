@@ -1,9 +1,8 @@
 -- Every refusal of a text of values has its cause.
 use Rattle.std.proofs.Common.{◌≡◌, ℕ, List, Some, None, Ok, Option, refl}
-use Rattle.columns.specs.declared.value_text.ValueScan.TheVariants.{Form, Range, Room}
 use Rattle.columns.specs.declared.fault.TextFault.TheVariants.{Malformed, Misplaced, TooLong}
 use Rattle.columns.specs.Faults.{refuse}
-use Rattle.columns.specs.ValueText.{values_of, one_more, value_passes, first_value_fault, values_by}
+use Rattle.columns.specs.ValueText.{Form, Range, Room, values_of, one_more, value_passes, first_value_fault, values_by}
 use Rattle.columns.specs.ValueCauses.{Clear, Justified, ValuesRefusedForCause}
 use Rattle.columns.proofs.Causes.{all_pass, first_fails}
 

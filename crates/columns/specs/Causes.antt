@@ -9,9 +9,7 @@ use Rattle.sheet.specs.Tables.{Contents}
 use Rattle.columns.specs.declared.fault.TextFault.{TextFault}
 use Rattle.columns.specs.declared.fault.TextFault.TheVariants.{Malformed, Misplaced, TooLong}
 use Rattle.columns.specs.declared.table_text.Extent.{Extent}
-use Rattle.columns.specs.declared.table_text.Scan.{Scan}
-use Rattle.columns.specs.declared.table_text.Scan.TheVariants.{Form, Order, Room}
-use Rattle.columns.specs.TableText.{lines_of, counted, start, passes, read_table}
+use Rattle.columns.specs.TableText.{Form, Order, Room, Scan, lines_of, counted, start, passes, read_table}
 
 abbrev pub tally : {C X : Type 0} → (C → X → C) → C → List X → C
 tally count c [] = c

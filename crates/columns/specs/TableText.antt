@@ -17,8 +17,6 @@ use Rattle.columns.specs.declared.line.Line.{Line}
 use Rattle.columns.specs.declared.line.Line.TheVariants as line
 use Rattle.columns.specs.declared.table_text.Extent.{Extent}
 use Rattle.columns.specs.declared.table_text.Counts.{Counts}
-use Rattle.columns.specs.declared.table_text.Scan.{Scan}
-use Rattle.columns.specs.declared.table_text.Scan.TheVariants.{Form, Order, Room}
 use Rattle.columns.specs.Faults.{refuse, well_formed}
 use Rattle.columns.specs.Scans.{first_failing, laid}
 use Rattle.columns.specs.TableLines.{read_line}
@@ -43,6 +41,12 @@ counted c (Ok (line.Code n i)) = counts c.total.procedures c.total.cells (c.tota
 counted c (Err e) = c
 
 -- ---- the tests
+-- a text is gone over once for each refusal, in the order of their numbers
+pub data Scan : Type 0 where
+  Form : Scan
+  Order : Scan
+  Room : Extent → Scan
+
 -- a procedure or an instruction has the next number; procedures and their cells come before all instructions,
 -- a cell after its procedure, of which there are at most 250
 abbrev pub in_order : Counts → Said → Bool

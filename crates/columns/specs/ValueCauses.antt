@@ -5,10 +5,8 @@ use Rattle.std.specs.Prelude.{ℕ, List, Ok, Err, Result}
 use Rattle.sheet.specs.declared.value.Value.{Value}
 use Rattle.columns.specs.declared.fault.TextFault.{TextFault}
 use Rattle.columns.specs.declared.fault.TextFault.TheVariants.{Malformed, Misplaced, TooLong}
-use Rattle.columns.specs.declared.value_text.ValueScan.{ValueScan}
-use Rattle.columns.specs.declared.value_text.ValueScan.TheVariants.{Form, Range, Room}
 use Rattle.columns.specs.Causes.{AllPass, FirstToFail}
-use Rattle.columns.specs.ValueText.{values_of, one_more, value_passes, read_values}
+use Rattle.columns.specs.ValueText.{Form, Range, Room, ValueScan, values_of, one_more, value_passes, read_values}
 
 abbrev pub Clear : ValueScan → List ℕ → Type 0
 Clear s text = AllPass one_more (value_passes s) 0 (values_of text)

@@ -2,14 +2,12 @@
 --   values_of: what each line of a text says by itself
 --   value_passes: the test of each scan, in the order of the refusals 11, 12, 13
 --   read_values: the first line at fault under the lowest number, or the values
-use Rattle.std.specs.Prelude.{ℕ, ◌+◌, Bool, List, [], ◌∷◌, map, length, is_ok, Ok, Err, Option, Result, nat_lt, slice_set}
+use Rattle.std.specs.Prelude.{ℕ, ◌+◌, Bool, List, [], ◌∷◌, map, length, is_ok, Ok, Err, Option, Result, nat_lt}
 use Rattle.numerals.specs.Lines.{lines}
 use Rattle.sheet.specs.declared.value.Value.{Value}
 use Rattle.columns.specs.declared.fault.LineFault.{LineFault}
 use Rattle.columns.specs.declared.fault.TextFault.{TextFault}
 use Rattle.columns.specs.declared.fault.TextFault.TheVariants.{Malformed, Misplaced, TooLong}
-use Rattle.columns.specs.declared.value_text.ValueScan.{ValueScan}
-use Rattle.columns.specs.declared.value_text.ValueScan.TheVariants.{Form, Range, Room}
 use Rattle.columns.specs.Faults.{refuse, well_formed}
 use Rattle.columns.specs.Scans.{first_failing, laid}
 use Rattle.columns.specs.ValueLines.{read_value}
@@ -23,6 +21,12 @@ values_of text = map read_value (lines text)
 -- how many lines come before
 abbrev pub one_more : ℕ → Typed → ℕ
 one_more n x = n + 1
+
+-- a text is gone over once for each refusal, in the order of their numbers
+pub data ValueScan : Type 0 where
+  Form : ValueScan
+  Range : ValueScan
+  Room : ℕ → ValueScan
 
 abbrev pub value_passes : ValueScan → ℕ → Typed → Bool
 value_passes Form n x = well_formed x
@@ -61,12 +65,3 @@ how_many (Err f) = Err f
 abbrev pub values_left : Result (List Value) TextFault → List Value → List Value
 values_left (Ok vs) xs = laid vs xs
 values_left (Err f) xs = xs
-
--- ---- one line's value laid at place n
-abbrev pub with_value : Typed → ℕ → List Value → List Value
-with_value (Ok v) n xs = slice_set xs n v
-with_value (Err e) n xs = xs
-
-abbrev pub place_after : Typed → ℕ → ℕ
-place_after (Ok v) n = n + 1
-place_after (Err e) n = n

@@ -4,7 +4,7 @@ ghost use Rattle.columns.specs.Letters.{kind_letter, optional_letter, line_lette
 use crate::fault::LineFault;
 use sheet::kind::Kind;
 
-// The three lines of a table's text.
+// The three kinds of lines of a table's text.
 #[derive(Clone, Copy, Drop)]
 pub enum LineKind {
     Procedure,
@@ -12,17 +12,22 @@ pub enum LineKind {
     Code,
 }
 
-pub(crate) fn line_kind(letter: char) -> Result<LineKind, LineFault>
-    ensures { result ≡ line_letter letter }
-{
-    match letter {
-        'P' => Ok(LineKind::Procedure),
-        'V' => Ok(LineKind::Cell),
-        'C' => Ok(LineKind::Code),
-        _ => Err(LineFault::Malformed),
+impl TryFrom<char> for LineKind {
+    type Error = LineFault;
+
+    ghost try_from_gives = { λ c r. r ≡ line_letter c };
+
+    fn try_from(letter: char) -> Result<LineKind, LineFault> {
+        match letter {
+            'P' => Ok(LineKind::Procedure),
+            'V' => Ok(LineKind::Cell),
+            'C' => Ok(LineKind::Code),
+            _ => Err(LineFault::Malformed),
+        }
     }
 }
 
+// No `TryFrom`, since a kind is a type of another crate.
 pub(crate) fn kind_by_letter(letter: char) -> Result<Kind, LineFault>
     ensures { result ≡ kind_letter letter }
 {

@@ -1,8 +1,9 @@
-ghost use Rattle.std.specs.Prelude.{◌≡◌, ◌+◌, ◌<◌, ◌≤◌, length};
-ghost use Rattle.columns.specs.TableLines.{number_in, short, integer, ending, blank_column, mnemonic_in, read_procedure, read_cell, read_code, read_line};
+ghost use Rattle.std.specs.Prelude.{◌≡◌, ◌+◌, ◌<◌, ◌≤◌, length, if◌then◌else◌, ◌==◌};
+ghost use Rattle.columns.specs.declared.fault.LineFault.TheVariants.{Malformed};
+ghost use Rattle.columns.specs.TableLines.{number_in, short, integer, read_procedure, read_cell, read_code, read_line};
 
 use crate::fault::LineFault;
-use crate::letters::{LineKind, kind_by_letter, line_kind, optional_kind};
+use crate::letters::{LineKind, kind_by_letter, optional_kind};
 use numerals::read::read_number;
 use sheet::instruction::Instruction;
 use sheet::kind::Kind;
@@ -25,6 +26,7 @@ pub enum Line {
     Code(u16, Instruction),
 }
 
+// The number at a place and of a width, as the format gives its columns.
 pub(crate) fn number_in(line: &[u8], at: usize, width: usize) -> Result<i128, LineFault>
     requires { at + width ≤ length line.now }
     ensures { result ≡ number_in at width line.now }
@@ -32,50 +34,28 @@ pub(crate) fn number_in(line: &[u8], at: usize, width: usize) -> Result<i128, Li
     read_number(&line[at..at + width]).ok_or(LineFault::Malformed)
 }
 
+// Each range has a function of its own: with the conversions inline, the check finds no proof of a whole line.
 fn short(n: i128) -> Result<u16, LineFault>
     ensures { result ≡ short n }
 {
-    if 0 <= n && n < 65536 {
-        Ok(n as u16)
-    } else {
-        Err(LineFault::OutOfRange)
-    }
+    Ok(u16::try_from(n)?)
 }
 
 fn operand(n: i128) -> Result<i32, LineFault>
     ensures { result ≡ integer n }
 {
-    if -2147483648 <= n && n <= 2147483647 {
-        Ok(n as i32)
-    } else {
-        Err(LineFault::OutOfRange)
-    }
+    Ok(i32::try_from(n)?)
 }
 
-pub(crate) fn line_end(byte: u8) -> Result<(), LineFault>
-    ensures { result ≡ ending byte }
+// Refuses a line whose `byte` is not the one that is wanted there.
+pub(crate) fn expect(byte: u8, wanted: u8) -> Result<(), LineFault>
+    ensures { result ≡ (if byte == wanted then Ok tt else Err Malformed) }
 {
-    if byte == b'\n' {
+    if byte == wanted {
         Ok(())
     } else {
         Err(LineFault::Malformed)
     }
-}
-
-fn blank_column(byte: u8) -> Result<(), LineFault>
-    ensures { result ≡ blank_column byte }
-{
-    if byte == b' ' {
-        Ok(())
-    } else {
-        Err(LineFault::Malformed)
-    }
-}
-
-fn mnemonic_in(a: u8, b: u8, c: u8, d: u8) -> Result<Mnemonic, LineFault>
-    ensures { result ≡ mnemonic_in a b c d }
-{
-    Mnemonic::by_name([a, b, c, d]).ok_or(LineFault::Malformed)
 }
 
 // All columns are read before any number is held against its range.
@@ -89,17 +69,13 @@ fn read_procedure(line: &[u8]) -> Result<Heading, LineFault>
     let b = number_in(line, 7, 6)?;
     let c = number_in(line, 13, 6)?;
     let d = number_in(line, 19, 6)?;
-    let result = optional_kind(line[25] as char)?;
-    line_end(line[26])?;
-    let number = short(a)?;
-    let parent = short(b)?;
-    let first = short(c)?;
-    let parameters = short(d)?;
+    let result = optional_kind(char::from(line[25]))?;
+    expect(line[26], b'\n')?;
     Ok(Heading {
-        number,
-        parent,
-        first,
-        parameters,
+        number: short(a)?,
+        parent: short(b)?,
+        first: short(c)?,
+        parameters: short(d)?,
         result,
     })
 }
@@ -107,12 +83,10 @@ fn read_procedure(line: &[u8]) -> Result<Heading, LineFault>
 fn read_cell(line: &[u8]) -> Result<Kind, LineFault>
     ensures { result ≡ read_cell line.now }
 {
-    if line.len() != 3 {
-        return Err(LineFault::Malformed);
+    match line {
+        [_, letter, b'\n'] => kind_by_letter(char::from(*letter)),
+        _ => Err(LineFault::Malformed),
     }
-    let kind = kind_by_letter(line[1] as char)?;
-    line_end(line[2])?;
-    Ok(kind)
 }
 
 fn read_code(line: &[u8]) -> Result<Line, LineFault>
@@ -122,33 +96,32 @@ fn read_code(line: &[u8]) -> Result<Line, LineFault>
         return Err(LineFault::Malformed);
     }
     let n = number_in(line, 1, 6)?;
-    blank_column(line[7])?;
-    let mnemonic = mnemonic_in(line[8], line[9], line[10], line[11])?;
-    let t = optional_kind(line[12] as char)?;
-    let t2 = optional_kind(line[13] as char)?;
+    expect(line[7], b' ')?;
+    let name = [line[8], line[9], line[10], line[11]];
+    let mnemonic = Mnemonic::by_name(name).ok_or(LineFault::Malformed)?;
+    let t = optional_kind(char::from(line[12]))?;
+    let t2 = optional_kind(char::from(line[13]))?;
     let a = number_in(line, 14, 12)?;
     let b = number_in(line, 26, 12)?;
-    line_end(line[38])?;
+    expect(line[38], b'\n')?;
     let number = short(n)?;
-    let p = operand(a)?;
-    let q = operand(b)?;
-    Ok(Line::Code(
-        number,
-        Instruction {
-            mnemonic,
-            t,
-            t2,
-            p,
-            q,
-        },
-    ))
+    let instruction = Instruction {
+        mnemonic,
+        t,
+        t2,
+        p: operand(a)?,
+        q: operand(b)?,
+    };
+    Ok(Line::Code(number, instruction))
 }
 
 pub(crate) fn read_line(line: &[u8]) -> Result<Line, LineFault>
-    requires { 0 < length line.now }
     ensures { result ≡ read_line line.now }
 {
-    match line_kind(line[0] as char)? {
+    let [letter, ..] = line else {
+        return Err(LineFault::Malformed);
+    };
+    match LineKind::try_from(char::from(*letter))? {
         LineKind::Procedure => Ok(Line::Procedure(read_procedure(line)?)),
         LineKind::Cell => Ok(Line::Cell(read_cell(line)?)),
         LineKind::Code => read_code(line),

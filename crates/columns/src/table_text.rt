@@ -1,16 +1,13 @@
-ghost use Rattle.std.specs.Prelude.{◌≡◌, ◌+◌, ◌^◌, ◌<◌, ◌≤◌, map, length, None};
-ghost use Rattle.numerals.specs.Lines.{lines as split};
-ghost use Rattle.columns.specs.TableLines.{read_line};
-ghost use Rattle.columns.specs.Scans.{laid};
-ghost use Rattle.columns.specs.Faults.{well_formed};
+ghost use Rattle.std.specs.Prelude.{◌≡◌, ◌+◌, ◌^◌, ◌<◌, ◌≤◌, Bool, map, length, None};
+ghost use Rattle.columns.specs.Scans.{Computes, first_failing, laid};
 ghost use Rattle.columns.specs.Causes.{RefusedForCause};
-ghost use Rattle.columns.specs.Laying.{with_procedure, with_cell, with_code};
-ghost use Rattle.columns.specs.TableText.{counted, passes, in_order, has_room, first_fault, verdict, lines_of, own_cells, record_of, procedures_of, cells_of, code_of, contents, extent_of, room_of, read_table, answered, procedures_left, cells_left, code_left};
+ghost use Rattle.columns.specs.Laying.{with_procedure, with_cell, with_code, SameLists};
+ghost use Rattle.columns.specs.TableText.{Said, Order, start, counted, in_order, has_room, first_fault, verdict, lines_of, own_cells, record_of, procedures_of, cells_of, code_of, contents, extent_of, room_of, read_table, answered, procedures_left, cells_left, code_left};
 
-use crate::fault::{LineFault, TextFault};
+use crate::fault::{LineFault, TextFault, is_well_formed};
 use crate::line::{Heading, Line, read_line};
 use crate::lists::put;
-use numerals::lines::split_line;
+use numerals::lines::Lines;
 use sheet::instruction::Instruction;
 use sheet::kind::Kind;
 use sheet::procedure::Procedure;
@@ -42,80 +39,32 @@ const START: Counts = Counts {
     own: 0,
 };
 
-// A text is gone over once for each refusal, in the order of their numbers.
-#[derive(Clone, Copy, Drop)]
-pub enum Scan {
-    Form,
-    Order,
-    Room(Extent),
-}
-
 impl Counts {
     // Counts one line more.
-    fn after(self, line: Result<Line, LineFault>) -> Counts
+    fn after(mut self, line: Result<Line, LineFault>) -> Counts
         requires procedures { self.total.procedures + 1 < 2 ^ 64 }
         requires cells { self.total.cells + 1 < 2 ^ 64 }
         requires code { self.total.code + 1 < 2 ^ 64 }
         requires own { self.own + 1 < 2 ^ 64 }
         ensures { result ≡ counted self line }
     {
-        let Extent {
-            procedures,
-            cells,
-            code,
-        } = self.total;
-        let own = self.own;
         match line {
-            Ok(Line::Procedure(_)) => Counts {
-                total: Extent {
-                    procedures: procedures + 1,
-                    cells,
-                    code,
-                },
-                own: 0,
-            },
-            Ok(Line::Cell(_)) => Counts {
-                total: Extent {
-                    procedures,
-                    cells: cells + 1,
-                    code,
-                },
-                own: own + 1,
-            },
-            Ok(Line::Code(_, _)) => Counts {
-                total: Extent {
-                    procedures,
-                    cells,
-                    code: code + 1,
-                },
-                own,
-            },
-            Err(_) => self,
+            Ok(Line::Procedure(_)) => {
+                self.total.procedures += 1;
+                self.own = 0;
+            }
+            Ok(Line::Cell(_)) => {
+                self.total.cells += 1;
+                self.own += 1;
+            }
+            Ok(Line::Code(_, _)) => self.total.code += 1,
+            Err(_) => {}
         }
+        self
     }
 }
 
-impl Scan {
-    fn passes(self, counts: Counts, line: Result<Line, LineFault>) -> bool
-        ensures { result ≡ passes self counts line }
-    {
-        match self {
-            Scan::Form => is_well_formed(line),
-            Scan::Order => is_in_order(counts, line),
-            Scan::Room(room) => has_room(room, counts, line),
-        }
-    }
-}
-
-fn is_well_formed(line: Result<Line, LineFault>) -> bool
-    ensures { result ≡ well_formed line }
-{
-    match line {
-        Err(LineFault::Malformed) => false,
-        _ => true,
-    }
-}
-
+// Not a method, here and below: both are handed on as tests of a count and a line.
 fn is_in_order(counts: Counts, line: Result<Line, LineFault>) -> bool
     ensures { result ≡ in_order counts line }
 {
@@ -125,9 +74,9 @@ fn is_in_order(counts: Counts, line: Result<Line, LineFault>) -> bool
         ..
     } = counts.total;
     match line {
-        Ok(Line::Procedure(heading)) => code == 0 && heading.number as usize == procedures,
+        Ok(Line::Procedure(heading)) => code == 0 && usize::from(heading.number) == procedures,
         Ok(Line::Cell(_)) => code == 0 && 0 < procedures && counts.own < MOST_CELLS,
-        Ok(Line::Code(number, _)) => number as usize == code,
+        Ok(Line::Code(number, _)) => usize::from(number) == code,
         Err(_) => false,
     }
 }
@@ -143,22 +92,21 @@ fn has_room(room: Extent, counts: Counts, line: Result<Line, LineFault>) -> bool
     }
 }
 
-// The first line that fails the scan, from 1.
-fn first_fault(scan: Scan, text: &[u8]) -> Option<usize>
-    ensures { result ≡ first_fault scan text.now }
+// The first line that fails the test, from 1; each is tested with what the lines before it hold.
+fn first_fault<F: Fn(Counts, Result<Line, LineFault>) -> bool>(
+    text: &[u8],
+    passes: F,
+) -> Option<usize>
+    requires { F.IsAlwaysCallable passes }
+    ensures { (test : Counts → Said → Bool) → Computes (F.post passes) test → result ≡ first_failing counted test start 1 (lines_of text.now) }
 {
-    let mut rest = text;
     let mut counts = START;
-    let mut number = 1;
-    while !rest.is_empty() {
-        let (line, after) = split_line(rest);
+    for (i, line) in Lines::new(text).enumerate() {
         let said = read_line(line);
-        if !scan.passes(counts, said) {
-            return Some(number);
+        if !passes(counts, said) {
+            return Some(i + 1);
         }
         counts = counts.after(said);
-        number += 1;
-        rest = after;
     }
     None
 }
@@ -167,17 +115,9 @@ fn first_fault(scan: Scan, text: &[u8]) -> Option<usize>
 fn own_cells(text: &[u8]) -> usize
     ensures { result ≡ own_cells (lines_of text.now) }
 {
-    let mut rest = text;
-    let mut n = 0;
-    while !rest.is_empty() {
-        let (line, after) = split_line(rest);
-        let Ok(Line::Cell(_)) = read_line(line) else {
-            return n;
-        };
-        n += 1;
-        rest = after;
-    }
-    n
+    Lines::new(text)
+        .take_while(|line| matches!(read_line(line), Ok(Line::Cell(_))))
+        .count()
 }
 
 impl Heading {
@@ -202,77 +142,77 @@ impl Heading {
     }
 }
 
-// Lays one line's record into its list; `rest` is the text after the line.
-fn lay(
-    said: Result<Line, LineFault>,
-    counts: Counts,
-    rest: &[u8],
-    procedures: &mut [Procedure],
-    cells: &mut [Kind],
-    code: &mut [Instruction],
-)
-    requires { own_cells (lines_of rest.now) < 65536 }
-    ensures procedures { procedures.new ≡ with_procedure said counts (own_cells (lines_of rest.now)) procedures.old }
-    ensures cells { cells.new ≡ with_cell said counts cells.old }
-    ensures code { code.new ≡ with_code said counts code.old }
-{
-    match said {
-        Ok(Line::Procedure(heading)) => {
-            let own = own_cells(rest) as u16;
-            put(
-                procedures,
-                counts.total.procedures,
-                heading.record(counts.total.cells, own),
-            );
-        }
-        Ok(Line::Cell(kind)) => put(cells, counts.total.cells, kind),
-        Ok(Line::Code(_, instruction)) => put(code, counts.total.code, instruction),
-        Err(_) => {}
-    }
+// The three lists lent for a table.
+#[derive(Drop)]
+struct Lists<'a> {
+    procedures: &'a mut [Procedure],
+    cells: &'a mut [Kind],
+    code: &'a mut [Instruction],
 }
 
-// Lays the records of a text in order into the lists.
-fn lay_all(
-    text: &[u8],
-    procedures: &mut [Procedure],
-    cells: &mut [Kind],
-    code: &mut [Instruction],
-) -> Extent
-    requires { first_fault Scan.Order text.now ≡ None }
-    ensures value { result ≡ extent_of (contents (lines_of text.now)) }
-    ensures procedures { procedures.new ≡ laid (procedures_of 0 (lines_of text.now)) procedures.old }
-    ensures cells { cells.new ≡ laid (cells_of (lines_of text.now)) cells.old }
-    ensures code { code.new ≡ laid (code_of (lines_of text.now)) code.old }
-{
-    let mut rest = text;
-    let mut counts = START;
-    while !rest.is_empty() {
-        let (line, after) = split_line(rest);
-        let said = read_line(line);
-        lay(said, counts, after, procedures, cells, code);
-        counts = counts.after(said);
-        rest = after;
+impl<'a> Lists<'a> {
+    // Lays one line's record into its list; `rest` is the text after the line.
+    fn lay(&mut self, said: Result<Line, LineFault>, counts: Counts, rest: &[u8])
+        requires { own_cells (lines_of rest.now) < 65536 }
+        ensures procedures { self.new.procedures.now ≡ with_procedure said counts (own_cells (lines_of rest.now)) self.old.procedures.now }
+        ensures cells { self.new.cells.now ≡ with_cell said counts self.old.cells.now }
+        ensures code { self.new.code.now ≡ with_code said counts self.old.code.now }
+        ensures same { SameLists self.old self.new }
+    {
+        match said {
+            Ok(Line::Procedure(heading)) => {
+                let own = own_cells(rest) as u16;
+                put(
+                    self.procedures,
+                    counts.total.procedures,
+                    heading.record(counts.total.cells, own),
+                );
+            }
+            Ok(Line::Cell(kind)) => put(self.cells, counts.total.cells, kind),
+            Ok(Line::Code(_, instruction)) => put(self.code, counts.total.code, instruction),
+            Err(_) => {}
+        }
     }
-    counts.total
+
+    // Lays the records of a text in order into the lists.
+    fn lay_all(&mut self, text: &[u8]) -> Extent
+        requires { first_fault Order text.now ≡ None }
+        ensures value { result ≡ extent_of (contents (lines_of text.now)) }
+        ensures procedures { self.new.procedures.now ≡ laid (procedures_of 0 (lines_of text.now)) self.old.procedures.now }
+        ensures cells { self.new.cells.now ≡ laid (cells_of (lines_of text.now)) self.old.cells.now }
+        ensures code { self.new.code.now ≡ laid (code_of (lines_of text.now)) self.old.code.now }
+        ensures same { SameLists self.old self.new }
+    {
+        // Not a `for`, since the text after each line is asked of the iterator.
+        let mut lines = Lines::new(text);
+        let mut counts = START;
+        while let Some(line) = lines.next() {
+            let said = read_line(line);
+            self.lay(said, counts, lines.as_slice());
+            counts = counts.after(said);
+        }
+        counts.total
+    }
 }
 
 // The first line at fault under the lowest number.
 fn check(text: &[u8], room: Extent) -> Result<(), TextFault>
     ensures { result ≡ verdict room text.now }
 {
-    if let Some(n) = first_fault(Scan::Form, text) {
+    if let Some(n) = first_fault(text, |_, said| is_well_formed(said)) {
         return Err(TextFault::Malformed(n));
     }
-    if let Some(n) = first_fault(Scan::Order, text) {
+    if let Some(n) = first_fault(text, is_in_order) {
         return Err(TextFault::Misplaced(n));
     }
-    if let Some(n) = first_fault(Scan::Room(room), text) {
+    if let Some(n) = first_fault(text, |counts, said| has_room(room, counts, said)) {
         return Err(TextFault::TooLong(n));
     }
     Ok(())
 }
 
 // Reads a table's text into three lent lists. A text that is refused changes none of them.
+// The lists are lent one by one: of a struct of `&mut`s the clauses would have to say too that it still holds the same ones.
 pub fn read_table(
     text: &[u8],
     procedures: &mut [Procedure],
@@ -291,5 +231,10 @@ pub fn read_table(
         code: code.len(),
     };
     check(text, room)?;
-    Ok(lay_all(text, procedures, cells, code))
+    let mut lists = Lists {
+        procedures,
+        cells,
+        code,
+    };
+    Ok(lists.lay_all(text))
 }

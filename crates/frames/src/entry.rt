@@ -1,11 +1,11 @@
 // The entry of a procedure: its frame gets its data cells.
 ghost use Rattle.std.specs.Prelude.{◌≡◌, ◌+◌, ◌^◌, ◌<◌, length};
-ghost use Rattle.host.specs.Hosts.{Meaning};
 ghost use Rattle.rules.specs.Lookups.{contents_of};
-ghost use Rattle.machine.specs.Frames.{settled, settle, clear, result_cell, opened, enter};
-ghost use Rattle.machine.specs.States.{by, at, gives};
+ghost use Rattle.machine.specs.Frames.{settled, settle, clear, opened};
+ghost use Rattle.machine.specs.Machine.{CarriesOut};
 ghost use Rattle.machine.specs.Steps as step;
 
+use machine::machine::Machine;
 use machine::registers::Registers;
 use reads::cells::cell_at;
 use reads::kinds::{local_kinds, parameter_kinds};
@@ -31,90 +31,67 @@ fn settled(cell: Cell) -> Cell
 }
 
 // The working cells from x up become data cells with their values.
-fn settle<S: Store>(kinds: &[Kind], x: u32, store: &mut S)
+fn settle<S: Store>(store: &mut S, kinds: &[Kind], x: u32)
     requires room { x + length kinds.now < 2 ^ 32 }
     ensures { S.cells store.new ≡ settle kinds.now x (S.cells store.old) }
 {
-    let mut place = x;
-    for kind in kinds {
+    // by number, since the kinds only say how many cells there are
+    for i in 0..kinds.len() {
+        let place = x + i as u32;
         let cell = settled(cell_at(store, place));
         let _ = store.write(Slot(place), cell);
-        place += 1;
     }
 }
 
 // The cells from x up become data cells of these kinds without a value.
-fn clear<S: Store>(kinds: &[Kind], x: u32, store: &mut S)
+fn clear<S: Store>(store: &mut S, kinds: &[Kind], x: u32)
     requires room { x + length kinds.now < 2 ^ 32 }
     ensures { S.cells store.new ≡ clear kinds.now x (S.cells store.old) }
 {
-    let mut place = x;
-    for kind in kinds {
-        let _ = store.write(Slot(place), Cell::Blank(*kind));
-        place += 1;
-    }
-}
-
-fn clear_result<S: Store>(res: Option<Kind>, x: u32, store: &mut S)
-    ensures { S.cells store.new ≡ result_cell res x (S.cells store.old) }
-{
-    if let Some(kind) = res {
-        let _ = store.write(Slot(x), Cell::Blank(kind));
+    for (i, kind) in kinds.iter().enumerate() {
+        let _ = store.write(Slot(x + i as u32), Cell::Blank(*kind));
     }
 }
 
 // The cells of the procedure's frame at m.
-fn open<S: Store>(table: Table<'_>, procedure: Procedure, m: u16, store: &mut S)
+fn open<S: Store>(store: &mut S, table: Table<'_>, procedure: Procedure, m: u16)
     ensures { S.cells store.new ≡ opened (contents_of table.entry) procedure m (S.cells store.old) }
 {
     let x = u32::from(m);
     let parameters = parameter_kinds(table, procedure);
-    settle(parameters, x + 5, store);
+    settle(store, parameters, x + 5);
     clear(
+        store,
         local_kinds(table, procedure),
         x + 5 + parameters.len() as u32,
-        store,
     );
-    clear_result(procedure.result, x, store);
-}
-
-fn enter<S: Store>(
-    table: Table<'_>,
-    procedure: Procedure,
-    next: CodePlace,
-    room: u16,
-    size: u16,
-    regs: &mut Registers,
-    store: &mut S,
-) -> Result<(), Stop>
-    ensures { (h : Meaning) → gives result (at regs.new (S.cells store.new) h) ≡ by (enter (contents_of table.entry) procedure next room size) (at regs.old (S.cells store.old) h) }
-{
-    let mp = u32::from(regs.mp);
-    passed(table, procedure, regs.mp, store)?;
-    let height = mp + u32::from(size);
-    let ep = height.saturating_sub(1) + u32::from(room);
-    if ep > u32::from(regs.last) {
-        return Err(Stop::StoreFull);
+    if let Some(kind) = procedure.result {
+        let _ = store.write(Slot(x), Cell::Blank(kind));
     }
-    open(table, procedure, regs.mp, store);
-    regs.pc = next;
-    regs.height = height;
-    regs.ep = ep as u16;
-    Ok(())
 }
 
 // n is the number of the instruction itself.
 pub fn ent<S: Store>(
+    machine: &mut Machine<'_, S>,
     table: Table<'_>,
     n: usize,
     room: u16,
     size: u16,
     next: CodePlace,
-    regs: &mut Registers,
-    store: &mut S,
 ) -> Result<(), Stop>
-    ensures { (h : Meaning) → gives result (at regs.new (S.cells store.new) h) ≡ by (step.ent (contents_of table.entry) n room size next) (at regs.old (S.cells store.old) h) }
+    ensures { CarriesOut S.cells result machine.old machine.new (step.ent (contents_of table.entry) n room size next) }
 {
     let procedure = procedure_at(table, owner(table, n));
-    enter(table, procedure, next, room, size, regs, store)
+    let Registers { mp, last, .. } = machine.regs;
+    passed(table, procedure, mp, machine.store)?;
+    let height = u32::from(mp) + u32::from(size);
+    let ep = height.saturating_sub(1) + u32::from(room);
+    if ep > u32::from(last) {
+        return Err(Stop::StoreFull);
+    }
+    open(machine.store, table, procedure, mp);
+    machine.regs.pc = next;
+    machine.regs.height = height;
+    machine.regs.ep = ep as u16;
+    Ok(())
 }

@@ -1,17 +1,15 @@
 -- What each kind of host means. Cited by their makers and by their methods. Assumes nothing.
---   lists_mean, meaning_of_lists: what is left of the first list, what the second holds so far, and the places left in it
+--   lists_mean, meaning_of_lists: the first list, what the second holds so far, and the places left in it
 --   lines_mean, meaning_of_lines: the values of the lines left, those of the lines written, and how many lines more the
 --     free bytes take
 --   text_written: the bytes of the lines written
 --   begun, lines_begun: what a host means that is made over a text and n free bytes, or the fault of the text
 --   meaning_made: what the host means that was made, if one was
 --   place_after: the place behind n where the value was taken or written, else n
---   value_found, end_found: the value that was found, and the place behind it
-use Rattle.std.specs.Prelude.{ℕ, ◌+◌, ◌-◌, ◌*◌, ◌/◌, List, [], length, take, drop, Ok, Err, Result}
+use Rattle.std.specs.Prelude.{ℕ, ◌+◌, ◌-◌, ◌*◌, ◌/◌, List, [], length, take, Ok, Err, Result}
 use Rattle.sheet.specs.declared.stop.Stop.{Stop}
 use Rattle.sheet.specs.declared.value.Value.{Value}
 use Rattle.columns.specs.declared.fault.TextFault.{TextFault}
-use Rattle.host.specs.declared.scan.Found.{Found}
 use Rattle.host.specs.declared.lists.Lists.{Lists}
 use Rattle.host.specs.declared.lines.Lines.{Lines}
 use Rattle.host.specs.Hosts.{Meaning}
@@ -21,13 +19,13 @@ abbrev pub lists_mean : List Value → ℕ → List Value → Meaning
 lists_mean left done output = record { waiting = left; written = take done output; room = length output - done }
 
 abbrev pub meaning_of_lists : Lists → Meaning
-meaning_of_lists h = lists_mean (drop h.at h.input.now) h.done h.output.now
+meaning_of_lists h = lists_mean h.input.now h.done h.output.now
 
 abbrev pub lines_mean : List Value → ℕ → List ℕ → Meaning
 lines_mean left done output = record { waiting = left; written = written_values done output; room = (length output - 22 * done) / 22 }
 
 abbrev pub meaning_of_lines : Lines → Meaning
-meaning_of_lines h = lines_mean (values_in (drop h.at h.input.now)) h.done h.output.now
+meaning_of_lines h = lines_mean (values_in h.input.now) h.done h.output.now
 
 abbrev pub text_written : Lines → List ℕ
 text_written h = take (22 * h.done) h.output.now
@@ -47,11 +45,3 @@ meaning_made (Err f) = Err f
 abbrev pub place_after : {A : Type 0} → Result A Stop → ℕ → ℕ
 place_after (Ok x) n = n + 1
 place_after (Err e) n = n
-
-abbrev pub value_found : Result Found Stop → Result Value Stop
-value_found (Ok f) = Ok f.value
-value_found (Err e) = Err e
-
-abbrev pub end_found : Result Found Stop → ℕ → ℕ
-end_found (Ok f) n = f.end
-end_found (Err e) n = n

@@ -1,5 +1,4 @@
 -- Values as lines of text, as a host takes and puts them. Cited by the host of text. Assumes nothing.
---   value_told: the value that a line says, if it says one
 --   values_in: the values of a text's lines; a line that is none means no value
 --   from_found: a value found, and the values of the lines behind it
 --   verdict, checked_values: the fault of a text, or its values; no list is lent for them, so none is too short
@@ -10,7 +9,7 @@
 --   written_values: those of the first n lines, each of 22 bytes
 --   lines_of: the text of a list of values
 --   AllValues: every record of a list is a value
-use Rattle.std.specs.Prelude.{◌≡◌, ℕ, zero, suc, ◌^◌, true, false, cond, ◌&&◌, List, [], ◌∷◌, ◌++◌, length, take, drop, ℤ, pos, negsuc, Some, None, Ok, Err, Option, Result, ◌==◌, from_bits, nat_lt, slice_index}
+use Rattle.std.specs.Prelude.{◌≡◌, ℕ, zero, suc, ◌^◌, true, false, cond, ◌&&◌, List, [], ◌∷◌, ◌++◌, length, take, drop, ℤ, pos, negsuc, Some, None, Ok, Option, Result, ◌==◌, from_bits, nat_lt, slice_index}
 use Rattle.std.specs.Int.Signed.{mag}
 use Rattle.std.specs.Float.{inf, binary64}
 use Rattle.numerals.specs.Numbers.{read_column}
@@ -19,22 +18,17 @@ use Rattle.sheet.specs.declared.value.Value.TheVariants.{Address, Boolean, Chara
 use Rattle.sheet.specs.Kinds.{is_value}
 use Rattle.columns.specs.declared.fault.TextFault.{TextFault}
 use Rattle.columns.specs.declared.fault.TextFault.TheVariants.{Malformed, Misplaced}
-use Rattle.columns.specs.declared.value_text.ValueScan.TheVariants.{Form, Range}
 use Rattle.columns.specs.Faults.{refuse}
 use Rattle.columns.specs.ValueLines.{write_value}
-use Rattle.columns.specs.ValueText.{Typed, values_of, good_values, first_value_fault, values_by}
+use Rattle.columns.specs.ValueText.{Form, Range, values_of, good_values, first_value_fault, values_by}
 use Rattle.host.specs.declared.scan.Found.{Found}
-
-abbrev pub value_told : Typed → Option Value
-value_told (Ok v) = Some v
-value_told (Err e) = None
 
 abbrev pub values_in : List ℕ → List Value
 values_in text = good_values (values_of text)
 
-abbrev pub from_found : Option Found → List ℕ → List Value
-from_found None text = []
-from_found (Some f) text = f.value ∷ values_in (drop f.end text)
+abbrev pub from_found : Option Found → List Value
+from_found None = []
+from_found (Some f) = f.value ∷ values_in f.rest.now
 
 -- the lowest number first, over the whole text
 abbrev pub verdict : List ℕ → Result (Unit {0}) TextFault

@@ -8,5 +8,5 @@ use sheet::value::Value;
 pub(crate) fn is_of(kind: Kind, x: Value) -> bool
     ensures { result ≡ suits kind x }
 {
-    x.kind().letter() == kind.letter() && x.is_proper()
+    x.kind() == kind && x.is_proper()
 }

@@ -1,13 +1,13 @@
 ghost use Rattle.std.specs.Prelude.{◌≡◌, ◌+◌, ◌-◌, ◌*◌, ◌/◌, ◌<◌, ◌≤◌, List, ◌++◌, length, take, drop, IfOk, OnOk};
 ghost use Rattle.sheet.specs.declared.value.Value.{Value};
-ghost use Rattle.host.specs.Hosts.{next_value, after_next, taken, put_answer, written};
-ghost use Rattle.host.specs.Meanings.{lines_mean, meaning_of_lines, meaning_made, lines_begun, text_written, place_after, value_found, end_found};
-ghost use Rattle.host.specs.Texts.{values_in, verdict, written_values, lines_of, AllValues};
+ghost use Rattle.host.specs.Hosts.{next_value, taken, put_answer, written};
+ghost use Rattle.host.specs.Meanings.{lines_mean, meaning_of_lines, meaning_made, lines_begun, text_written, place_after};
+ghost use Rattle.host.specs.Texts.{verdict, written_values, lines_of, AllValues};
 
 use crate::host::Host;
 use crate::kinds::is_of;
 use crate::line::line_of;
-use crate::scan::{Found, first_value};
+use crate::scan::first_value;
 use columns::fault::TextFault;
 use columns::value_text::read_values;
 use sheet::kind::Kind;
@@ -20,10 +20,9 @@ const LINE: usize = 22;
 // A host over a lent text of value lines and lent bytes for the lines written.
 #[derive(Drop)]
 pub struct Lines<'a> {
-    input: &'a [u8],
-    at: usize,
+    input: &'a [u8], // what still waits
     output: &'a mut [u8],
-    done: usize,
+    done: usize, // how many are written: the list is lent whole, so their count stands beside it
 }
 
 // Refuses a text with the fault of its first line at fault; with no list lent, none is too short.
@@ -44,7 +43,6 @@ impl<'a> Lines<'a> {
         check(input)?;
         Ok(Lines {
             input,
-            at: 0,
             output,
             done: 0,
         })
@@ -59,6 +57,7 @@ impl<'a> Lines<'a> {
     }
 }
 
+// By division, since `LINE * done` may pass 64 bits.
 fn part(output: &[u8], done: usize) -> &[u8]
     ensures value { result.now ≡ take (22 * done) output.now }
     ensures lines { AllValues (written_values done output.now) → result.now ≡ lines_of (written_values done output.now) }
@@ -67,23 +66,6 @@ fn part(output: &[u8], done: usize) -> &[u8]
         &output[..LINE * done]
     } else {
         output
-    }
-}
-
-// The next value, and the place behind its line, where it is one of this kind.
-fn next(input: &[u8], at: usize, kind: Kind) -> Result<Found, Stop>
-    ensures value { value_found result ≡ next_value kind (values_in (drop at input.now)) }
-    ensures rest { values_in (drop (end_found result at) input.now) ≡ after_next kind (values_in (drop at input.now)) }
-{
-    match first_value(input, at) {
-        None => Err(Stop::NothingWaits),
-        Some(found) => {
-            if is_of(kind, found.value) {
-                Ok(found)
-            } else {
-                Err(Stop::WrongInput)
-            }
-        }
     }
 }
 
@@ -116,8 +98,13 @@ impl Host for Lines<'_> {
         ensures value { result ≡ next_value kind (meaning_of_lines self.old).waiting }
         ensures after { meaning_of_lines self.new ≡ taken kind (meaning_of_lines self.old) }
     {
-        let found = next(self.input, self.at, kind)?;
-        self.at = found.end;
+        let Some(found) = first_value(self.input) else {
+            return Err(Stop::NothingWaits);
+        };
+        if !is_of(kind, found.value) {
+            return Err(Stop::WrongInput);
+        }
+        self.input = found.rest;
         Ok(found.value)
     }
 
@@ -126,9 +113,8 @@ impl Host for Lines<'_> {
         ensures value { result ≡ put_answer (meaning_of_lines self.old).room }
         ensures after { meaning_of_lines self.new ≡ written x (meaning_of_lines self.old) }
     {
-        let done = self.done;
-        lay(self.output, done, x)?;
-        self.done = done + 1;
+        lay(self.output, self.done, x)?;
+        self.done += 1;
         Ok(())
     }
 }

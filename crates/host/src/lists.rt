@@ -1,7 +1,6 @@
-ghost use Rattle.std.specs.Prelude.{◌≡◌, ◌-◌, ◌<◌, List, [], length, take, drop, OnOk};
-ghost use Rattle.host.specs.Hosts.{next_value, after_next, taken, put_answer, written};
-ghost use Rattle.host.specs.Meanings.{lists_mean, meaning_of_lists, place_after};
-ghost use Rattle.sheet.specs.declared.value.Value.{Value};
+ghost use Rattle.std.specs.Prelude.{◌≡◌, [], length, take};
+ghost use Rattle.host.specs.Hosts.{next_value, taken, put_answer, written};
+ghost use Rattle.host.specs.Meanings.{meaning_of_lists};
 
 use crate::host::Host;
 use crate::kinds::is_of;
@@ -12,10 +11,9 @@ use sheet::value::Value;
 // A host over a lent list of waiting values and a lent list for those written.
 #[derive(Drop)]
 pub struct Lists<'a> {
-    input: &'a [Value],
-    at: usize,
+    input: &'a [Value], // what still waits
     output: &'a mut [Value],
-    done: usize,
+    done: usize, // how many are written: the list is lent whole, so their count stands beside it
 }
 
 impl<'a> Lists<'a> {
@@ -25,7 +23,6 @@ impl<'a> Lists<'a> {
     {
         Lists {
             input,
-            at: 0,
             output,
             done: 0,
         }
@@ -42,38 +39,7 @@ impl<'a> Lists<'a> {
 fn front(list: &[Value], n: usize) -> &[Value]
     ensures { result.now ≡ take n list.now }
 {
-    if n < list.len() { &list[..n] } else { list }
-}
-
-// The next value, where it is one of this kind.
-fn next(input: &[Value], at: usize, kind: Kind) -> Result<Value, Stop>
-    ensures value { result ≡ next_value kind (drop at input.now) }
-    ensures rest { drop (place_after result at) input.now ≡ after_next kind (drop at input.now) }
-    ensures within { OnOk result (at < length input.now) }
-{
-    if at >= input.len() {
-        return Err(Stop::NothingWaits);
-    }
-    let x = input[at];
-    if is_of(kind, x) {
-        Ok(x)
-    } else {
-        Err(Stop::WrongInput)
-    }
-}
-
-// Writes x at the first free place, where there is one.
-fn lay(output: &mut [Value], done: usize, x: Value) -> Result<(), Stop>
-    ensures value { result ≡ put_answer (length output.old - done) }
-    ensures after { (vs : List Value) → lists_mean vs (place_after result done) output.new ≡ written x (lists_mean vs done output.old) }
-    ensures within { OnOk result (done < length output.old) }
-{
-    if done < output.len() {
-        output[done] = x;
-        Ok(())
-    } else {
-        Err(Stop::NoRoom)
-    }
+    list.get(..n).unwrap_or(list)
 }
 
 impl Host for Lists<'_> {
@@ -84,19 +50,28 @@ impl Host for Lists<'_> {
         ensures value { result ≡ next_value kind (meaning_of_lists self.old).waiting }
         ensures after { meaning_of_lists self.new ≡ taken kind (meaning_of_lists self.old) }
     {
-        let x = next(self.input, self.at, kind)?;
-        self.at += 1;
-        Ok(x)
+        let [x, rest @ ..] = self.input else {
+            return Err(Stop::NothingWaits);
+        };
+        if !is_of(kind, *x) {
+            return Err(Stop::WrongInput);
+        }
+        self.input = rest;
+        Ok(*x)
     }
 
+    #[tactic(auto, using(crate::proofs::Steps::puts))]
     fn put(&mut self, x: Value) -> Result<(), Stop>
         ensures name { self.new.output.ghost_name ≡ self.old.output.ghost_name }
         ensures value { result ≡ put_answer (meaning_of_lists self.old).room }
         ensures after { meaning_of_lists self.new ≡ written x (meaning_of_lists self.old) }
     {
-        let done = self.done;
-        lay(self.output, done, x)?;
-        self.done = done + 1;
+        if self.done >= self.output.len() {
+            return Err(Stop::NoRoom);
+        }
+        // By index, since a proof knows nothing of what a slice holds after `get_mut`.
+        self.output[self.done] = x;
+        self.done += 1;
         Ok(())
     }
 }

@@ -1,42 +1,30 @@
-ghost use Rattle.std.specs.Prelude.{◌≡◌, ◌+◌, ◌<◌, ◌≤◌, [], ◌∷◌, length, drop};
-ghost use Rattle.numerals.specs.Lines.{lines as split};
+ghost use Rattle.std.specs.Prelude.{◌≡◌};
 ghost use Rattle.host.specs.Texts.{values_in, from_found};
 
-use crate::line::value_in;
-use numerals::lines::split_line;
+use columns::value_line::read_value;
+use numerals::lines::Lines;
 use sheet::value::Value;
 
-// A value, and the place behind its line.
+// A value, and what follows its line.
 #[derive(Clone, Copy, Drop)]
-pub struct Found {
+pub struct Found<'a> {
     pub value: Value,
-    pub end: usize,
+    pub rest: &'a [u8],
 }
 
-// The line that begins at a place.
-fn line_at(text: &[u8], at: usize) -> &[u8]
-    requires { at < length text.now }
-    ensures some { 0 < length result.now }
-    ensures within { at + length result.now ≤ length text.now }
-    ensures alone { split result.now ≡ result.now ∷ [] }
-    ensures first { split (drop at text.now) ≡ result.now ∷ split (drop (at + length result.now) text.now) }
+// The first value in a text's lines.
+pub(crate) fn first_value(text: &[u8]) -> Option<Found<'_>>
+    ensures { values_in text.now ≡ from_found result }
 {
-    let (line, _) = split_line(&text[at..]);
-    line
-}
-
-// The first value in the lines from a place on.
-pub(crate) fn first_value(text: &[u8], from: usize) -> Option<Found>
-    ensures { values_in (drop from text.now) ≡ from_found result text.now }
-{
-    let mut at = from;
-    while at < text.len() {
-        let line = line_at(text, at);
-        let end = at + line.len();
-        if let Some(value) = value_in(line) {
-            return Some(Found { value, end });
+    let mut lines = Lines::new(text);
+    // Not a chain, since what follows the line is asked of the iterator.
+    while let Some(line) = lines.next() {
+        if let Ok(value) = read_value(line) {
+            return Some(Found {
+                value,
+                rest: lines.as_slice(),
+            });
         }
-        at = end;
     }
     None
 }

@@ -1,16 +1,13 @@
 // The instructions that read and write data cells: of procedure 0, and by address.
-ghost use Rattle.std.specs.Prelude.{◌≡◌};
-ghost use Rattle.host.specs.Hosts.{Meaning};
 ghost use Rattle.machine.specs.Leaves.{load, store as stores};
-ghost use Rattle.machine.specs.States.{by, at, gives};
+ghost use Rattle.machine.specs.Machine.{CarriesOut};
 ghost use Rattle.machine.specs.Steps as step;
 
 use crate::stack::push;
-use arith::payload::address_in;
-use machine::registers::Registers;
+use machine::machine::Machine;
 use reads::cells::{cell_at, held_in, reached, stacked_at, typed_at, writable};
 use sheet::kind::Kind;
-use sheet::place::CodePlace;
+use sheet::place::{CodePlace, StorePlace};
 use sheet::stop::Stop;
 use store::cell::Cell;
 use store::slot::Slot;
@@ -18,98 +15,94 @@ use store::store::Store;
 
 // The cell at x is pushed.
 pub(crate) fn load<S: Store>(
+    machine: &mut Machine<'_, S>,
     kind: Kind,
     x: u32,
     next: CodePlace,
-    regs: &mut Registers,
-    store: &mut S,
 ) -> Result<(), Stop>
-    ensures { (h : Meaning) → gives result (at regs.new (S.cells store.new) h) ≡ by (load next kind x) (at regs.old (S.cells store.old) h) }
+    ensures { CarriesOut S.cells result machine.old machine.new (load next kind x) }
 {
-    let value = held_in(Stop::WrongCell, Stop::WrongCell, kind, cell_at(store, x))?;
-    push(value, 0, next, regs, store)
+    let value = held_in(
+        Stop::WrongCell,
+        Stop::WrongCell,
+        kind,
+        cell_at(machine.store, x),
+    )?;
+    push(machine, value, 0, next)
 }
 
 // The top is taken and stored in the cell at x.
 pub(crate) fn store_at<S: Store>(
+    machine: &mut Machine<'_, S>,
     kind: Kind,
     x: u32,
     next: CodePlace,
-    regs: &mut Registers,
-    store: &mut S,
 ) -> Result<(), Stop>
-    ensures { (h : Meaning) → gives result (at regs.new (S.cells store.new) h) ≡ by (stores next kind x) (at regs.old (S.cells store.old) h) }
+    ensures { CarriesOut S.cells result machine.old machine.new (stores next kind x) }
 {
-    let value = typed_at(store, kind, regs.height, 0)?;
-    writable(Stop::WrongCell, Stop::WrongCell, kind, cell_at(store, x))?;
-    let _ = store.write(Slot(x), Cell::Data(value));
-    regs.pc = next;
-    regs.height = regs.height.saturating_sub(1);
+    let value = typed_at(machine.store, kind, machine.regs.height, 0)?;
+    writable(
+        Stop::WrongCell,
+        Stop::WrongCell,
+        kind,
+        cell_at(machine.store, x),
+    )?;
+    let _ = machine.store.write(Slot(x), Cell::Data(value));
+    machine.regs.pc = next;
+    machine.regs.height = machine.regs.height.saturating_sub(1);
     Ok(())
 }
 
 pub fn ldo<S: Store>(
+    machine: &mut Machine<'_, S>,
     kind: Kind,
     offset: u16,
     next: CodePlace,
-    regs: &mut Registers,
-    store: &mut S,
 ) -> Result<(), Stop>
-    ensures { (h : Meaning) → gives result (at regs.new (S.cells store.new) h) ≡ by (load next kind offset) (at regs.old (S.cells store.old) h) }
+    ensures { CarriesOut S.cells result machine.old machine.new (load next kind offset) }
 {
-    load(kind, u32::from(offset), next, regs, store)
+    load(machine, kind, u32::from(offset), next)
 }
 
 pub fn sro<S: Store>(
+    machine: &mut Machine<'_, S>,
     kind: Kind,
     offset: u16,
     next: CodePlace,
-    regs: &mut Registers,
-    store: &mut S,
 ) -> Result<(), Stop>
-    ensures { (h : Meaning) → gives result (at regs.new (S.cells store.new) h) ≡ by (stores next kind offset) (at regs.old (S.cells store.old) h) }
+    ensures { CarriesOut S.cells result machine.old machine.new (stores next kind offset) }
 {
-    store_at(kind, u32::from(offset), next, regs, store)
+    store_at(machine, kind, u32::from(offset), next)
 }
 
-pub fn ind<S: Store>(
-    kind: Kind,
-    next: CodePlace,
-    regs: &mut Registers,
-    store: &mut S,
-) -> Result<(), Stop>
-    ensures { (h : Meaning) → gives result (at regs.new (S.cells store.new) h) ≡ by (step.ind kind next) (at regs.old (S.cells store.old) h) }
+pub fn ind<S: Store>(machine: &mut Machine<'_, S>, kind: Kind, next: CodePlace) -> Result<(), Stop>
+    ensures { CarriesOut S.cells result machine.old machine.new (step.ind kind next) }
 {
-    let address = address_in(stacked_at(store, regs.height, 0)?)?;
-    let x = reached(address, regs.height)?;
+    let address = StorePlace::try_from(stacked_at(machine.store, machine.regs.height, 0)?)?;
+    let x = reached(address, machine.regs.height)?;
     let value = held_in(
         Stop::NoDataCell,
         Stop::OtherKindOfCell,
         kind,
-        cell_at(store, x),
+        cell_at(machine.store, x),
     )?;
-    push(value, 1, next, regs, store)
+    push(machine, value, 1, next)
 }
 
-pub fn sto<S: Store>(
-    kind: Kind,
-    next: CodePlace,
-    regs: &mut Registers,
-    store: &mut S,
-) -> Result<(), Stop>
-    ensures { (h : Meaning) → gives result (at regs.new (S.cells store.new) h) ≡ by (step.sto kind next) (at regs.old (S.cells store.old) h) }
+pub fn sto<S: Store>(machine: &mut Machine<'_, S>, kind: Kind, next: CodePlace) -> Result<(), Stop>
+    ensures { CarriesOut S.cells result machine.old machine.new (step.sto kind next) }
 {
-    let value = typed_at(store, kind, regs.height, 0)?;
-    let address = address_in(stacked_at(store, regs.height, 1)?)?;
-    let place = reached(address, regs.height)?;
+    let value = typed_at(machine.store, kind, machine.regs.height, 0)?;
+    let address = StorePlace::try_from(stacked_at(machine.store, machine.regs.height, 1)?)?;
+    let place = reached(address, machine.regs.height)?;
     writable(
         Stop::NoDataCell,
         Stop::OtherKindOfCell,
         kind,
-        cell_at(store, place),
+        cell_at(machine.store, place),
     )?;
-    let _ = store.write(Slot(place), Cell::Data(value));
-    regs.pc = next;
-    regs.height = regs.height.saturating_sub(2);
+    let _ = machine.store.write(Slot(place), Cell::Data(value));
+    machine.regs.pc = next;
+    machine.regs.height = machine.regs.height.saturating_sub(2);
     Ok(())
 }

@@ -1,7 +1,5 @@
 -- Rows as records: what reading, writing and comparing one does to their meanings.
-use Rattle.std.proofs.Common.{◌≡◌, ℕ, ◌<◌, Bool, true, false, cond, ltb, List, [], ◌∷◌, map, reverse, length, get_or, take, set, Some, None, Ok, Err, Result, sym, refl, ap, ◌∙◌, arith}
-use Rattle.std.proofs.lemmas.Bool.{lt-ltb}
-use Rattle.pile.specs.declared.Full.{Full}
+use Rattle.std.proofs.Common.{◌≡◌, ℕ, ◌<◌, Bool, true, false, cond, List, [], ◌∷◌, map, reverse, length, get_or, take, set, Some, None, sym, refl, ap, ◌∙◌, arith}
 use Rattle.std.proofs.lemmas.Slice.Eq.{bytes_eq-Decides}
 use Rattle.std.proofs.lemmas.List.{get_or-map, map-set, reverse-reverse}
 use Rattle.rows.specs.declared.row.Row.{Row}
@@ -11,8 +9,7 @@ use Rattle.rows.proofs.Laws.{codes_entries}
 use Rattle.paths.specs.Rows.{row_at}
 use Rattle.transfer.specs.Transfer.{stack_of}
 use Rattle.judge.specs.Flow.{same_stack}
-use Rattle.paths.specs.Judging.{going, refused}
-use Rattle.judge.specs.declared.flaw.Flaw.TheVariants.{Differs}
+use Rattle.paths.specs.Judging.{going}
 use Rattle.judge.specs.Handing.{meanings, handed_by, handed_to}
 use Rattle.judge.proofs.Inside.{stacks_tell}
 
@@ -70,24 +67,3 @@ module _ (rs : List Row) (work : List ℕ) (j : ℕ) (row : Row) (inside : j < l
       ∙ ap (λ o. going (set (meanings rs) j o) (j ∷ work)) (sym (reached row f))
       ∙ ap (λ x. going x (j ∷ work)) (sym (set_row rs j row))
       ∙ ap (going (meanings (set rs j row))) (sym w)
-
-  meets : (b : Bool) → is_row old ≡ true → b ≡ same (entries old) (entries row)
-      → handed_to (meanings rs) work j (stack_of row) ≡ cond b (going (meanings rs) work) (refused Differs j)
-  meets b e q =
-      ap (λ o. handed_by o (meanings rs) work j (stack_of row)) (there e)
-      ∙ ap (λ t. cond t (going (meanings rs) work) (refused Differs j)) (sym (q ∙ same_stacks old row))
-
-  pub kept : (b : Bool) → is_row old ≡ true → b ≡ same (entries old) (entries row) → b ≡ true
-      → handed_to (meanings rs) work j (stack_of row) ≡ going (meanings rs) work
-  kept b e q t = meets b e q ∙ ap (λ x. cond x (going (meanings rs) work) (refused Differs j)) t
-
-  pub clashed : (b : Bool) → is_row old ≡ true → b ≡ same (entries old) (entries row) → b ≡ false
-      → handed_to (meanings rs) work j (stack_of row) ≡ refused Differs j
-  clashed b e q t = meets b e q ∙ ap (λ x. cond x (going (meanings rs) work) (refused Differs j)) t
-
--- a pile with room refuses nothing
-ok_err : (f : Full) → ◌≡◌ {A = Result (Unit {0}) Full} (Ok tt) (Err f) → ⊥
-ok_err f e = let z : ◌≡◌ {A = ℕ} 0 1 = cc in omega arith
-
-pub never_full : (n m : ℕ) (r : Result (Unit {0}) Full) (f : Full) → n < m → r ≡ cond (ltb n m) (Ok tt) (Err (record {})) → r ≡ Err f → ⊥
-never_full n m r f h e g = ok_err f (sym (e ∙ ap (λ b. cond b (Ok tt) (Err (record {}))) (lt-ltb n m h)) ∙ g)

@@ -1,9 +1,7 @@
 -- Handing on is the path engine's, and keeps the work list ready.
-use Rattle.std.proofs.Common.{◌≡◌, ℕ, ◌+◌, ◌<◌, Bool, true, false, cond, List, [], ◌∷◌, length, Some, None, Option, refl, ap, ◌∙◌, subst, arith}
+use Rattle.std.proofs.Common.{◌≡◌, ℕ, ◌<◌, Bool, true, false, cond, List, [], ◌∷◌, length, Some, None, Option, refl, ap, ◌∙◌, subst, arith}
 use Rattle.std.proofs.lemmas.List.{length-map}
 use Rattle.sheet.specs.Tables.{Contents}
-use Rattle.rules.specs.declared.effects.Way.{Way}
-use Rattle.rules.specs.declared.effects.Way.TheVariants.{Next, Jump, Fork}
 use Rattle.paths.specs.Exact.{agree}
 use Rattle.paths.specs.Flows.{Hand}
 use Rattle.paths.specs.Invariants.{Cases}
@@ -11,11 +9,9 @@ use Rattle.paths.specs.Judging.{Progress, going, refused, then, hand_met, hand_a
 use Rattle.paths.specs.Loops.{Ready, StillReady}
 use Rattle.paths.specs.Rows.{Rows, row_at}
 use Rattle.paths.proofs.Ready.{hand_ready, work_room}
-use Rattle.paths.specs.Lists.{All}
 use Rattle.rows.specs.declared.row.Row.{Row}
 use Rattle.rows.specs.Rows.{meaning}
 use Rattle.transfer.specs.Stacks.{Stack}
-use Rattle.transfer.specs.Transfer.{handed}
 use Rattle.judge.specs.declared.flaw.Flaw.{Flaw}
 use Rattle.judge.specs.declared.flaw.Flaw.TheVariants.{Differs}
 use Rattle.judge.specs.Flow.{same_stack, stacks}
@@ -62,15 +58,3 @@ room_for_one rs work d j e y h o =
     let k : length (meanings rs) ≡ length rs = length-map rs meaning in
     let l = work_room (meanings rs) work j y (omega (arith, k, h)) o in
     omega (arith, k, l, e)
-
-abbrev Below : ℕ → List (Hand Stack) → Type 0
-Below k hs = All (λ h. h.0 < k) hs
-
-pub next_inside : (w : Way) (n k : ℕ) (s : Stack) → w ≡ Next → Below k (handed w n s) → n + 1 < k
-next_inside w n k s e b = (subst (λ (x : Way). Below k (handed x n s)) e b).0
-
-pub label_inside : (w : Way) (q n k : ℕ) (s : Stack) → w ≡ Jump q → Below k (handed w n s) → q < k
-label_inside w q n k s e b = (subst (λ (x : Way). Below k (handed x n s)) e b).0
-
-pub both_inside : (w : Way) (q n k : ℕ) (s : Stack) → w ≡ Fork q → Below k (handed w n s) → (q < k) × (n + 1 < k)
-both_inside w q n k s e b = let p = subst (λ (x : Way). Below k (handed x n s)) e b in (p.0, p.1.0)

@@ -5,17 +5,16 @@
 --   entered: what comes of a procedure's entry over these rows, until none waits
 --   Follows: what is left after an answer is what the judgement comes to
 --   ComesTo: the same of the rows alone, once nothing waits
---   told, kept: what is answered then, k rows being found, and what the first n records are
+--   must_be: the row in place at j, if any, must be this stack
 use Rattle.std.specs.Prelude.{◌≡◌, ℕ, cond, List, [], ◌∷◌, map, Some, None, Ok, Err, Option, Result, slice_set}
 use Rattle.sheet.specs.declared.procedure.Procedure.{Procedure}
 use Rattle.sheet.specs.Tables.{Contents}
-use Rattle.pile.specs.Piles.{blanked}
 use Rattle.rules.specs.declared.fault.TableFault.{TableFault}
 use Rattle.paths.specs.Flows.{Hand}
 use Rattle.paths.specs.Judging.{Progress, going, refused, settle}
 use Rattle.paths.specs.Rows.{Rows, row_at}
 use Rattle.rows.specs.declared.row.Row.{Row}
-use Rattle.rows.specs.Rows.{meaning, no_row}
+use Rattle.rows.specs.Rows.{meaning}
 use Rattle.transfer.specs.Stacks.{Stack}
 use Rattle.judge.specs.declared.flaw.Flaw.{Flaw}
 use Rattle.judge.specs.declared.flaw.Flaw.TheVariants.{Differs}
@@ -52,10 +51,6 @@ abbrev pub ComesTo : Result (Unit {0}) TableFault → Progress Stack Flaw → Ro
 ComesTo (Ok x) p rows = (work : List ℕ) × (p ≡ going rows work)
 ComesTo (Err x) p rows = (f : Flaw) × (n : ℕ) × (p ≡ refused f n) × (x ≡ flaw_at f n)
 
-abbrev pub told : Result (Unit {0}) TableFault → ℕ → Result ℕ TableFault
-told (Ok u) k = Ok k
-told (Err f) k = Err f
-
-abbrev pub kept : Result (Unit {0}) TableFault → ℕ → List Row → List Row
-kept (Ok u) n rs = rs
-kept (Err f) n rs = blanked n no_row rs
+abbrev pub must_be : Option Stack → ℕ → Stack → Result (Unit {0}) TableFault
+must_be None j s = Err (flaw_at Differs j)
+must_be (Some q) j s = cond (same_stack q s) (Ok tt) (Err (flaw_at Differs j))

@@ -5,3 +5,4 @@ pub mod Laws
 pub mod Admission
 pub mod AdmissionLaws
 pub mod Handing
+pub mod Verifying

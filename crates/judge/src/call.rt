@@ -1,19 +1,18 @@
 // The verifier's call.
-ghost use Rattle.std.specs.Prelude.{◌≡◌, ◌≤◌, ◌++◌, map, length, take, drop, replicate, None};
+ghost use Rattle.std.specs.Prelude.{◌≡◌, ◌≤◌, ◌++◌, map, length, take, drop, replicate, count_by, None};
 ghost use Rattle.paths.specs.Judging.{judge as judgement};
 ghost use Rattle.paths.specs.Rows.{count};
-ghost use Rattle.pile.specs.Piles.{blanked};
 ghost use Rattle.rules.specs.Faults.{passed};
 ghost use Rattle.rules.specs.Lookups.{contents_of};
-ghost use Rattle.rows.specs.Rows.{no_row};
+ghost use Rattle.rows.specs.Rows.{is_row, no_row};
 ghost use Rattle.transfer.specs.Transfer.{Checked};
 ghost use Rattle.judge.specs.Flow.{stacks};
-ghost use Rattle.judge.specs.Handing.{meanings, ComesTo, told, kept};
+ghost use Rattle.judge.specs.Handing.{meanings, ComesTo};
 ghost use Rattle.judge.specs.Judgement.{checked, followed, judged, answered, followed_rows, left_in_rows, left_in_places, RecordsLeft};
 ghost use Rattle.judge.specs.Laws.{JudgeAcceptsExactlyCleanTables, JudgeCountsWhatPathsReach, JudgeLeavesWhatPathsBring, JudgeRefusesForCause};
 
-use crate::enter::enter_all;
-use pile::{Pile, blank};
+use crate::verifier::Verifier;
+use pile::Pile;
 use rows::row::Row;
 use rules::fault::TableFault;
 use rules::operands::check_operands;
@@ -33,48 +32,9 @@ fn check(table: Table<'_>, rows: usize, places: usize) -> Result<(), TableFault>
 
 // How many of these records are rows.
 fn reached(rows: &[Row]) -> usize
-    ensures { result ≡ count (meanings rows.now) }
+    ensures { result ≡ count_by is_row rows.now }
 {
-    let mut reached = 0;
-    for row in rows {
-        if row.is_reached() {
-            reached += 1;
-        }
-    }
-    reached
-}
-
-// The first n rows are unreached.
-fn reset(rows: &mut [Row], n: usize)
-    ensures { rows.new ≡ blanked n no_row rows.old }
-{
-    blank(rows, n, Row::unreached())
-}
-
-// Nothing waits in the first n places any more.
-fn empty(places: &mut [usize], n: usize)
-    ensures { places.new ≡ blanked n 0 places.old }
-{
-    blank(places, n, 0)
-}
-
-// The first n rows stay, and are counted, where the paths are clean.
-fn conclude(
-    verdict: Result<(), TableFault>,
-    rows: &mut [Row],
-    n: usize,
-) -> Result<usize, TableFault>
-    requires { n ≤ length rows.old }
-    ensures value { result ≡ told verdict (count (meanings (take n rows.old))) }
-    ensures rows { rows.new ≡ kept verdict n rows.old }
-{
-    match verdict {
-        Ok(()) => Ok(reached(&rows[0..n])),
-        Err(fault) => {
-            reset(rows, n);
-            Err(fault)
-        }
-    }
+    rows.iter().filter(|row| row.is_reached()).count()
 }
 
 // All paths, over rows without any.
@@ -86,7 +46,12 @@ fn follow(table: Table<'_>, rows: &mut [Row], places: &mut [usize]) -> Result<()
     ensures rest { drop (length table.entry.code.now) places.new ≡ drop (length table.entry.code.now) places.old }
 {
     let mut work = Pile::over(places);
-    enter_all(table, rows, &mut work)
+    let mut verifier = Verifier {
+        table,
+        rows,
+        work: &mut work,
+    };
+    verifier.enter_all()
 }
 
 // The paths of a table that keeps the rules of tables and of operands.
@@ -104,10 +69,16 @@ fn judge_checked(
     ensures places { places.new ≡ replicate (length table.entry.code.now) 0 ++ drop (length table.entry.code.now) places.old }
 {
     let n = table.code.len();
-    reset(rows, n);
-    let verdict = follow(table, &mut rows[0..n], places);
-    empty(places, n);
-    conclude(verdict, rows, n)
+    rows[..n].fill(Row::unreached());
+    let verdict = follow(table, &mut rows[..n], places);
+    places[..n].fill(0);
+    match verdict {
+        Ok(()) => Ok(reached(&rows[..n])),
+        Err(fault) => {
+            rows[..n].fill(Row::unreached());
+            Err(fault)
+        }
+    }
 }
 
 // Judges a table on every path, and answers how many instructions have rows. Rows and places of the work list are lent,

@@ -5,7 +5,7 @@ use rules::fault::TableFault;
 use transfer::breach::Breach;
 
 // What may be wrong at an instruction that a path reaches or that a row is lent for.
-#[derive(Clone, Copy, Drop)]
+#[derive(Clone, Copy, PartialEq, Eq, Debug, Drop)]
 pub enum Flaw {
     Broken(Breach), // it breaks a stack rule
     Differs, // two stacks meet there that differ

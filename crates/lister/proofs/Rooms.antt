@@ -9,10 +9,9 @@ use Rattle.columns.specs.declared.fault.TextFault.{TextFault}
 use Rattle.columns.specs.declared.line.Line.TheVariants as line
 use Rattle.columns.specs.declared.table_text.Extent.{Extent}
 use Rattle.columns.specs.declared.table_text.Counts.{Counts}
-use Rattle.columns.specs.declared.table_text.Scan.TheVariants.{Form, Order, Room}
 use Rattle.columns.specs.Scans.{first_failing}
 use Rattle.columns.specs.TableLines.{read_line}
-use Rattle.columns.specs.TableText.{Said, counted, passes, start, first_fault, read_by, read_table, answered, contents, lines_of, extent_of, room_of}
+use Rattle.columns.specs.TableText.{Form, Order, Room, Said, counted, passes, start, first_fault, read_by, read_table, answered, contents, lines_of, extent_of, room_of}
 use Rattle.columns.specs.Faults.{refuse}
 use Rattle.columns.specs.declared.fault.TextFault.TheVariants.{Malformed, Misplaced, TooLong}
 use Rattle.lister.specs.Listings.{read_freely, end_line, verdict_on}

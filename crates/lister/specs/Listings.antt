@@ -7,9 +7,8 @@ use Rattle.std.specs.Prelude.{◌≡◌, ℕ, List, ◌++◌, Ok, Err, Result}
 use Rattle.columns.specs.declared.fault.TextFault.{TextFault}
 use Rattle.columns.specs.declared.fault.TextFault.TheVariants.{Malformed, Misplaced}
 use Rattle.columns.specs.declared.table_text.Extent.{Extent}
-use Rattle.columns.specs.declared.table_text.Scan.TheVariants.{Form, Order}
 use Rattle.columns.specs.Faults.{refuse, fault_number, fault_line}
-use Rattle.columns.specs.TableText.{first_fault, contents, lines_of, extent_of}
+use Rattle.columns.specs.TableText.{Form, Order, first_fault, contents, lines_of, extent_of}
 use Rattle.columns.specs.Verdicts.{write_verdict}
 
 -- so 13 is never the answer

@@ -1,6 +1,5 @@
 // The parts of a listing: a heading, then the procedures with their cells and instructions.
 use crate::row::row;
-use crate::words::kind_word;
 use sheet::instruction::Instruction;
 use sheet::kind::Kind;
 use sheet::procedure::Procedure;
@@ -19,8 +18,8 @@ fn heading(heap: Global, number: usize, procedure: Procedure) -> Result<String, 
         ..
     } = procedure;
     let result = match result {
-        Some(kind) => kind_word(kind),
-        None => "none",
+        Some(kind) => kind.to_string(heap)?,
+        None => String::from_str(heap, "none")?,
     };
     format!(in heap;
         "\nProcedure {number}: parent {parent}, first instruction {first}, parameters {parameters}, result {result}\n"
@@ -40,13 +39,12 @@ fn list_cells(
         .take(procedure.count as usize);
     for (i, kind) in own.enumerate() {
         let offset = FIRST_CELL.saturating_add(i);
-        let word = kind_word(*kind);
         let role = if i < procedure.parameters as usize {
             "parameter"
         } else {
             ""
         };
-        let line = format!(in heap; "{offset:>6}  {word:<9}  {role}")?;
+        let line = format!(in heap; "{offset:>6}  {kind:<9}  {role}")?;
         out.push_str(line.as_str().trim_end())?;
         out.push('\n')?;
     }
@@ -70,11 +68,11 @@ fn list_code(
 
 // Where the procedures begin at the earliest: an instruction lies in the last one that begins at it or before.
 fn earliest(procedures: &[Procedure]) -> usize {
-    let mut least = usize::MAX;
-    for procedure in procedures {
-        least = least.min(procedure.first as usize);
-    }
-    least
+    procedures
+        .iter()
+        .map(|procedure| procedure.first as usize)
+        .min()
+        .unwrap_or(usize::MAX)
 }
 
 // The listing of a table. Nothing is taken for granted: the table may break every rule.
@@ -93,17 +91,12 @@ pub(crate) fn list_parts(heap: Global, table: Table<'_>) -> Result<String, Alloc
         out.push_str("\nIn no procedure\n")?;
         list_code(heap, &mut out, 0, outside, code)?;
     }
-    let mut later = procedures;
     for (i, procedure) in procedures.iter().enumerate() {
-        later = match later {
-            [_, rest @ ..] => rest,
-            [] => later,
-        };
         let text = heading(heap, i, *procedure)?;
         out.push_str(text.as_str())?;
         list_cells(heap, &mut out, *procedure, cells)?;
         let from = procedure.first as usize;
-        let to = earliest(later).min(n);
+        let to = earliest(&procedures[i + 1..]).min(n);
         if procedure.count > 0 && from < to {
             out.push('\n')?;
         }

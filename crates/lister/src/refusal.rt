@@ -1,7 +1,6 @@
 // What a listing says of a text that is refused.
-use crate::words::cause;
 use columns::fault::TextFault;
-use numerals::lines::split_line;
+use numerals::lines::Lines;
 use std::alloc::{AllocError, Global};
 
 // A longer line is not quoted.
@@ -9,21 +8,14 @@ const LONGEST_QUOTE: usize = 100;
 
 // The line of this number, from 1, without its end; empty where the text has none.
 fn line_of(text: &[u8], number: usize) -> &[u8] {
-    let mut rest = text;
-    for _ in 1..number {
-        rest = split_line(rest).1;
-    }
-    let line = split_line(rest).0;
+    let line = Lines::new(text)
+        .nth(number.saturating_sub(1))
+        .unwrap_or_default();
     line.strip_suffix(b"\n").unwrap_or(line)
 }
 
 fn is_printable(line: &[u8]) -> bool {
-    for b in line {
-        if *b < b' ' || *b > b'~' {
-            return false;
-        }
-    }
-    true
+    line.iter().all(|b| (b' '..=b'~').contains(b))
 }
 
 fn quoted(heap: Global, line: &[u8]) -> Result<String, AllocError> {
@@ -40,11 +32,10 @@ fn quoted(heap: Global, line: &[u8]) -> Result<String, AllocError> {
 pub(crate) fn refusal(heap: Global, text: &[u8], fault: TextFault) -> Result<String, AllocError> {
     let place = fault.line();
     let number = fault.number();
-    let cause = cause(fault);
     let line = line_of(text, place);
     let shown = quoted(heap, line)?;
     let length = line.len();
     format!(in heap;
-        "Refused\n\n{place:>6}  {shown}\n        length {length}, its end not counted\n\nline {place}: {number}, {cause}\n"
+        "Refused\n\n{place:>6}  {shown}\n        length {length}, its end not counted\n\nline {place}: {number}, {fault}\n"
     )
 }

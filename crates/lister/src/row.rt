@@ -5,47 +5,25 @@ use sheet::kind::Kind;
 use sheet::shape::{Letters, Rule, Shape};
 use std::alloc::{AllocError, Global};
 
-// Whether the mnemonic uses a letter or an operand.
-#[derive(Clone, Copy, Drop)]
-enum Column {
-    Used,
-    Unused,
-}
-
-impl Column {
-    fn new(used: bool) -> Column {
-        if used { Column::Used } else { Column::Unused }
-    }
-}
-
 fn sign(kind: Option<Kind>) -> char {
-    match kind {
-        Some(kind) => kind.letter() as char,
-        None => '-',
-    }
+    kind.map_or('-', |kind| kind.letter() as char)
 }
 
 // A letter after a blank: nothing where none is due, and a ! before one that is not due, or in place of one that is.
-fn letter(heap: Global, column: Column, kind: Option<Kind>) -> Result<String, AllocError> {
-    match (column, kind) {
-        (Column::Used, Some(kind)) => format!(in heap; " {}", kind.letter() as char),
-        (Column::Used, None) => format!(in heap; " !-"),
-        (Column::Unused, Some(kind)) => format!(in heap; " !{}", kind.letter() as char),
-        (Column::Unused, None) => Ok(String::new(heap)),
+fn letter(heap: Global, is_due: bool, kind: Option<Kind>) -> Result<String, AllocError> {
+    match kind {
+        None if !is_due => Ok(String::new(heap)),
+        Some(_) if is_due => format!(in heap; " {}", sign(kind)),
+        _ => format!(in heap; " !{}", sign(kind)),
     }
 }
 
 // An operand after a blank: nothing where none is due, and a ! before one that is not due.
-fn operand(heap: Global, column: Column, value: i32) -> Result<String, AllocError> {
-    match column {
-        Column::Used => format!(in heap; " {value}"),
-        Column::Unused => {
-            if value == 0 {
-                Ok(String::new(heap))
-            } else {
-                format!(in heap; " !{value}")
-            }
-        }
+fn operand(heap: Global, is_due: bool, value: i32) -> Result<String, AllocError> {
+    match value {
+        _ if is_due => format!(in heap; " {value}"),
+        0 => Ok(String::new(heap)),
+        _ => format!(in heap; " !{value}"),
     }
 }
 
@@ -53,18 +31,7 @@ fn operand(heap: Global, column: Column, value: i32) -> Result<String, AllocErro
 fn target(heap: Global, shape: Shape, q: i32) -> Result<String, AllocError> {
     match shape.rule {
         Rule::Label | Rule::Call => format!(in heap; " -> {q}"),
-        _ => operand(heap, Column::new(shape.q), q),
-    }
-}
-
-// Which of T and T2 the letters take.
-fn letters_used(letters: Letters) -> (Column, Column) {
-    match letters {
-        Letters::Nothing => (Column::Unused, Column::Unused),
-        Letters::Number | Letters::Every | Letters::Ordinal | Letters::Reads => {
-            (Column::Used, Column::Unused)
-        }
-        Letters::Pair => (Column::Used, Column::Used),
+        _ => operand(heap, shape.q, q),
     }
 }
 
@@ -95,12 +62,11 @@ pub(crate) fn row(
         q,
     } = instruction;
     let shape = mnemonic.shape();
-    let (first, second) = letters_used(shape.letters);
     let name = mnemonic.name();
     let name = std::str::from_utf8(&name).unwrap_or("?");
-    let t = letter(heap, first, t)?;
-    let t2 = letter(heap, second, t2)?;
-    let p = operand(heap, Column::new(shape.p), p)?;
+    let t = letter(heap, shape.letters != Letters::Nothing, t)?;
+    let t2 = letter(heap, shape.letters == Letters::Pair, t2)?;
+    let p = operand(heap, shape.p, p)?;
     let q = target(heap, shape, q)?;
     let text = format!(in heap; "{name}{t}{t2}{p}{q}")?;
     let effect = own_effect(heap, instruction)?;

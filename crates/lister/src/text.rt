@@ -7,43 +7,18 @@ use crate::refusal::refusal;
 use columns::fault::TextFault;
 use columns::table_text::{Extent, read_table};
 use columns::verdict::write_verdict;
-use numerals::lines::split_line;
+use numerals::lines::Lines;
 use sheet::instruction::Instruction;
 use sheet::kind::Kind;
-use sheet::mnemonic::Mnemonic;
 use sheet::procedure::Procedure;
 use sheet::table::Table;
 use std::alloc::{AllocError, Global};
-
-// What a place of a list holds before a record is laid there.
-const BLANK_PROCEDURE: Procedure = Procedure {
-    parent: 0,
-    first: 0,
-    parameters: 0,
-    result: None,
-    offset: 0,
-    count: 0,
-};
-
-const BLANK_INSTRUCTION: Instruction = Instruction {
-    mnemonic: Mnemonic::Hlt,
-    t: None,
-    t2: None,
-    p: 0,
-    q: 0,
-};
 
 // How many lines a text has: no list has more records.
 fn line_count(text: &[u8]) -> usize
     ensures { result ≡ length (lines text.now) }
 {
-    let mut rest = text;
-    let mut n = 0;
-    while !rest.is_empty() {
-        rest = split_line(rest).1;
-        n += 1;
-    }
-    n
+    Lines::new(text).count()
 }
 
 // The verdict: 0 and the count of instructions, or the refusal's number and line.
@@ -70,9 +45,9 @@ pub fn list_table(heap: Global, text: &[u8]) -> Result<Vec<u8>, AllocError>
     ensures { IfOk result (λ out. EndsIn (verdict_on text.now) out.items) }
 {
     let lines = line_count(text);
-    let mut procedures = vec![in heap; BLANK_PROCEDURE; lines]?;
+    let mut procedures = vec![in heap; Procedure::NONE; lines]?;
     let mut cells = vec![in heap; Kind::Integer; lines]?;
-    let mut code = vec![in heap; BLANK_INSTRUCTION; lines]?;
+    let mut code = vec![in heap; Instruction::NONE; lines]?;
     let answer = read_table(text, &mut procedures, &mut cells, &mut code);
     let verdict = end_line(answer);
     let body = match answer {

@@ -1,25 +1,5 @@
 // The words of a listing.
-use columns::fault::TextFault;
-use sheet::kind::Kind;
 use sheet::mnemonic::Mnemonic;
-
-pub(crate) fn kind_word(kind: Kind) -> &'static str {
-    match kind {
-        Kind::Address => "address",
-        Kind::Boolean => "boolean",
-        Kind::Character => "character",
-        Kind::Integer => "integer",
-        Kind::Real => "real",
-    }
-}
-
-pub(crate) fn cause(fault: TextFault) -> &'static str {
-    match fault {
-        TextFault::Malformed(_) => "a line of wrong length, letter, mnemonic or column",
-        TextFault::Misplaced(_) => "a number out of range or a line out of order",
-        TextFault::TooLong(_) => "the list for its record is too short",
-    }
-}
 
 // What it takes from the stack and gives, the top at the right; T and U stand for the letters T and T2.
 pub(crate) fn effect(mnemonic: Mnemonic) -> &'static str {

@@ -21,12 +21,7 @@ refused and the line.
 const MOST_BYTES: usize = 1048576;
 
 fn wants_help(rt: &HostRuntime) -> anyhow::Result<bool> {
-    for word in env::args(rt)?.skip(1) {
-        if word.as_str() == "--help" {
-            return Ok(true);
-        }
-    }
-    Ok(false)
+    Ok(env::args(rt)?.skip(1).any(|word| word.as_str() == "--help"))
 }
 
 fn run(rt: &HostRuntime) -> anyhow::Result<()> {

@@ -17,7 +17,7 @@ use Rattle.sheet.specs.declared.value.Value.TheVariants.{Address}
 use Rattle.sheet.specs.Tables.{Contents}
 use Rattle.arith.specs.Answers.{Answer, demand, ◌>>=◌, ◌>>◌}
 use Rattle.arith.specs.Operations.{binary_result, unary_result}
-use Rattle.arith.specs.Payloads.{address_in, boolean_in}
+use Rattle.sheet.specs.Payloads.{address_in, boolean_in}
 use Rattle.rules.specs.Lookups.{procedure_at, owner, natural}
 use Rattle.store.specs.declared.cell.Cell.TheVariants.{Data}
 use Rattle.store.specs.Cells.{peek}

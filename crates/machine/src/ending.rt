@@ -1,5 +1,6 @@
 ghost use Rattle.std.specs.Prelude.{◌≡◌};
 ghost use Rattle.machine.specs.Endings.{ending_number};
+ghost use Rattle.machine.specs.declared.ending.Ending.TheVariants.{Stopped};
 
 use sheet::stop::Stop;
 
@@ -11,6 +12,7 @@ pub enum Ending {
 }
 
 impl Ending {
+    // A method, since `u8::from` would not say that it is the number of a refusal.
     pub fn number(self) -> u8
         ensures { result ≡ ending_number self }
     {
@@ -18,5 +20,13 @@ impl Ending {
             Ending::Halted => 1,
             Ending::Stopped(stop) => stop.number(),
         }
+    }
+}
+
+impl From<Stop> for Ending {
+    ghost from_gives = { λ x y. y ≡ Stopped x };
+
+    fn from(value: Stop) -> Ending {
+        Ending::Stopped(value)
     }
 }

@@ -3,5 +3,6 @@
 
 pub mod decode;
 pub mod ending;
+pub mod machine;
 pub mod operation;
 pub mod registers;

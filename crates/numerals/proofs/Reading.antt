@@ -1,9 +1,12 @@
 -- Steps of the reader.
-use Rattle.std.proofs.Common.{◌≡◌, ℕ, ◌-◌, ◌<◌, List, [], ◌∷◌, length, get_or, take, drop, arith}
-use Rattle.std.proofs.lemmas.List.{take_rest}
-use Rattle.std.proofs.lemmas.Bool.Decides.{nat_tests}
-use Rattle.numerals.specs.Numbers.{natural, minus, whole}
+use Rattle.std.proofs.Common.{◌≡◌, ◌+◌, ℕ, suc, cond, Bool, true, false, eqb, List, [], ◌∷◌, drop, refl, arith}
+use Rattle.std.specs.List.{prefix_len}
+use Rattle.numerals.specs.Numbers.{after_blanks}
 
-pub whole_minus : (s : List ℕ) → 0 < length s → get_or s 0 0 ≡ 45 → whole s ≡ minus (natural (take (length s - 1) (drop 1 s)))
-whole_minus [] h e = grind arith
-whole_minus (c ∷ cs) h e = rw (take_rest (c ∷ cs) 1) (grind (arith, nat_tests))
+pub without_blanks : (s : List ℕ) → drop (prefix_len (λ b. eqb b 32) s) s ≡ after_blanks s
+without_blanks [] = refl
+without_blanks (c ∷ cs) = by (without_blanks cs) (eqb c 32)
+  where
+    by : drop (prefix_len (λ b. eqb b 32) cs) cs ≡ after_blanks cs → (b : Bool) → drop (cond b (1 + prefix_len (λ b. eqb b 32) cs) 0) (c ∷ cs) ≡ cond b (after_blanks cs) (c ∷ cs)
+    by e true = let k : 1 + prefix_len (λ b. eqb b 32) cs ≡ suc (prefix_len (λ b. eqb b 32) cs) = omega arith in rw k e
+    by e false = refl

@@ -1,19 +1,17 @@
-ghost use Rattle.std.specs.Prelude.{◌≡◌, ◌+◌, ◌<◌, ◌≤◌, [], ◌∷◌, ◌++◌, length, take, drop};
-ghost use Rattle.numerals.specs.Lines.{lines as split};
+ghost use Rattle.std.specs.Prelude.{◌≡◌, ◌+◌, ◌<◌, ◌≤◌, ◌∷◌, ◌++◌, length, take, drop};
+ghost use Rattle.std.specs.Iterator.{YieldsFirstRef, item_count};
+ghost use Rattle.numerals.specs.Lines.{lines as split, lines_left};
 
 // The length of the first line of `text`, its end counted.
 fn line_length(text: &[u8]) -> usize
-    requires { 0 < length text.now }
-    ensures some { 0 < result }
     ensures within { result ≤ length text.now }
-    ensures first { split text.now ≡ take result text.now ∷ split (drop result text.now) }
+    ensures some { 0 < length text.now → 0 < result }
+    ensures first { 0 < length text.now → split text.now ≡ take result text.now ∷ split (drop result text.now) }
 {
-    for (i, b) in text.iter().enumerate() {
-        if *b == b'\n' {
-            return i + 1;
-        }
+    match text.iter().position(|b| *b == b'\n') {
+        Some(end) => end + 1,
+        None => text.len(),
     }
-    text.len()
 }
 
 // The first line of `text`, its end included, and what follows it; both are empty where the text is.
@@ -23,8 +21,44 @@ pub fn split_line(text: &[u8]) -> (&[u8], &[u8])
     ensures some { 0 < length text.now → 0 < length result.0.now }
     ensures len { length result.0.now + length result.1.now ≡ length text.now }
 {
-    if text.is_empty() {
-        return (text, text);
-    }
     text.split_at(line_length(text))
+}
+
+// The lines of a text, each with its end; the last may have none.
+#[derive(Drop)]
+pub struct Lines<'a> {
+    rest: &'a [u8],
+}
+
+impl<'a> Lines<'a> {
+    pub fn new(text: &'a [u8]) -> Lines<'a>
+        ensures lines { lines_left result ≡ split text.now }
+        ensures within { length (lines_left result) ≤ length text.now }
+    {
+        Lines { rest: text }
+    }
+
+    // The text whose lines are still to come.
+    pub fn as_slice(&self) -> &'a [u8]
+        ensures { split result.now ≡ lines_left self.now }
+    {
+        self.rest
+    }
+}
+
+impl<'a> Iterator for Lines<'a> {
+    type Item = &'a [u8];
+
+    ghost next_gives = { YieldsFirstRef lines_left };
+
+    ghost remaining = { item_count lines_left };
+
+    fn next(&mut self) -> Option<&'a [u8]> {
+        if self.rest.is_empty() {
+            return None;
+        }
+        let (line, rest) = split_line(self.rest);
+        *self = Lines { rest };
+        Some(line)
+    }
 }

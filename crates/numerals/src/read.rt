@@ -1,21 +1,9 @@
-ghost use Rattle.std.specs.Prelude.{◌≡◌, ◌^◌, ◌<◌, ◌≤◌, length, drop, IfSome};
-ghost use Rattle.numerals.specs.Numbers.{digits_after, natural as unsigned_number, whole as signed_number, after_blanks, read_number, read_column, plus, minus};
+ghost use Rattle.std.specs.Prelude.{◌≡◌, ◌^◌, ◌<◌, ◌≤◌, length, IfSome};
+ghost use Rattle.numerals.specs.Numbers.{digits_after, natural as unsigned_number, whole as signed_number, read_column};
+ghost use Rattle.numerals.specs.Laws.{ReadNumbersWriteBack};
 
 // The widest column that any line has.
 const WIDEST: usize = 20;
-
-// How many blanks `s` starts with.
-fn blanks(s: &[u8]) -> usize
-    ensures within { result ≤ length s.now }
-    ensures rest { drop result s.now ≡ after_blanks s.now }
-{
-    for (i, b) in s.iter().enumerate() {
-        if *b != b' ' {
-            return i;
-        }
-    }
-    s.len()
-}
 
 // The number that the digits `s` write.
 fn digits(s: &[u8]) -> Option<u128>
@@ -23,12 +11,13 @@ fn digits(s: &[u8]) -> Option<u128>
     ensures value { result ≡ digits_after 0 s.now }
     ensures bound { IfSome result (λ n. n < 10 ^ 20) }
 {
+    // A loop, since a try_fold's closure would say the same in more words.
     let mut n: u128 = 0;
     for b in s {
-        match *b {
-            b'0'..=b'9' => n = n * 10 + (*b - b'0') as u128,
-            _ => return None,
+        if !b.is_ascii_digit() {
+            return None;
         }
+        n = n * 10 + u128::from(*b - b'0');
     }
     Some(n)
 }
@@ -40,50 +29,33 @@ fn natural(s: &[u8]) -> Option<u128>
     ensures bound { IfSome result (λ n. n < 10 ^ 20) }
 {
     match s {
-        [] => None,
-        [b'0', _, ..] => None,
+        [] | [b'0', _, ..] => None,
         _ => digits(s),
     }
 }
 
-fn negative(n: Option<u128>) -> Option<i128>
-    requires { IfSome n (λ x. x < 10 ^ 20) }
-    ensures { result ≡ minus n }
-{
-    match n {
-        Some(x) => if x == 0 { None } else { Some(-(x as i128)) },
-        None => None,
-    }
-}
-
-fn positive(n: Option<u128>) -> Option<i128>
-    requires { IfSome n (λ x. x < 10 ^ 20) }
-    ensures { result ≡ plus n }
-{
-    match n {
-        Some(x) => Some(x as i128),
-        None => None,
-    }
-}
-
+// There is no -0.
 fn whole(s: &[u8]) -> Option<i128>
     requires { length s.now ≤ 20 }
     ensures { result ≡ signed_number s.now }
 {
     match s {
-        [] => None,
-        [b'-', rest @ ..] => negative(natural(rest)),
-        _ => positive(natural(s)),
+        [b'-', rest @ ..] => match natural(rest)? {
+            0 => None,
+            n => Some(-(n as i128)),
+        },
+        _ => Some(natural(s)? as i128),
     }
 }
 
 // The number that stands right-justified in `columns`.
 pub fn read_number(columns: &[u8]) -> Option<i128>
-    ensures { result ≡ read_column columns.now }
+    ensures value { result ≡ read_column columns.now }
+    ensures written { ReadNumbersWriteBack }
 {
     if columns.len() > WIDEST {
         return None;
     }
-    let start = blanks(columns);
-    whole(&columns[start..])
+    let blanks = columns.iter().take_while(|b| **b == b' ').count();
+    whole(&columns[blanks..])
 }

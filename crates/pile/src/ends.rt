@@ -25,8 +25,10 @@ impl<'a, T: Copy> Pile<'a, T> {
         ensures places { MatchResult result (λ _. places_of self.new ≡ slice_set (places_of self.old) (depth self.old) x) (λ _. places_of self.new ≡ places_of self.old) }
         ensures room { room self.new ≡ room self.old }
     {
+        // by its index, since a `get_mut` does not tell what the places end as
         if self.taken < self.places.len() {
-            self.put(x);
+            self.places[self.taken] = x;
+            self.taken += 1;
             Ok(())
         } else {
             Err(Full)
@@ -34,6 +36,7 @@ impl<'a, T: Copy> Pile<'a, T> {
     }
 
     // Takes the top off.
+    #[tactic(auto, using(crate::proofs::Stacks::below_top))]
     pub fn pop(&mut self) -> Option<T>
         ensures name { self.new.places.ghost_name ≡ self.old.places.ghost_name }
         ensures value { result ≡ top_of self.old }
@@ -43,10 +46,8 @@ impl<'a, T: Copy> Pile<'a, T> {
         ensures places { places_of self.new ≡ places_of self.old }
         ensures room { room self.new ≡ room self.old }
     {
-        if self.taken == 0 {
-            None
-        } else {
-            Some(self.lift())
-        }
+        let top = self.top()?;
+        self.taken -= 1;
+        Some(top)
     }
 }

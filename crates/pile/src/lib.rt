@@ -4,11 +4,10 @@
 mod ends;
 mod fill;
 mod looks;
-mod slots;
 
 ghost use Rattle.std.specs.Prelude.{◌≤◌, length};
 
-// The first `taken` places hold its elements, the last of them on top.
+// The first `taken` places hold its elements, the last of them on top. Lent, since nothing here allocates.
 #[derive(Drop)]
 pub struct Pile<'a, T> {
     places: &'a mut [T],
@@ -17,7 +16,7 @@ pub struct Pile<'a, T> {
 }
 
 // No place is left for one element more.
-#[derive(Clone, Copy, Drop)]
+#[derive(Clone, Copy, Debug, PartialEq, Eq, Drop)]
 pub struct Full;
 
 pub use fill::blank;

@@ -4,7 +4,6 @@ ghost use Rattle.std.specs.List.{slice_get};
 ghost use Rattle.pile.specs.Piles.{bottom_first, depth, top_of};
 
 use super::Pile;
-use super::slots::fetch;
 
 impl<'a, T: Copy> Pile<'a, T> {
     pub fn len(&self) -> usize
@@ -19,21 +18,24 @@ impl<'a, T: Copy> Pile<'a, T> {
         self.len() == 0
     }
 
+    // The elements, the bottom first.
+    pub fn as_slice(&self) -> &[T]
+        ensures { result.now ≡ bottom_first self.now }
+    {
+        &self.places[..self.taken]
+    }
+
     // The element that `pop` would take.
     pub fn top(&self) -> Option<T>
         ensures { result ≡ top_of self.now }
     {
-        if self.taken == 0 {
-            None
-        } else {
-            Some(self.peek())
-        }
+        self.as_slice().last().copied()
     }
 
-    // The i-th element from the bottom, where a reader of a whole stack begins.
+    // The i-th element from the bottom.
     pub fn at(&self, i: usize) -> Option<T>
         ensures { result ≡ slice_get (bottom_first self.now) i }
     {
-        fetch(&self.places[..self.taken], i)
+        self.as_slice().get(i).copied()
     }
 }

@@ -6,10 +6,9 @@ use Rattle.columns.specs.declared.fault.TextFault.TheVariants.{Malformed, Mispla
 use Rattle.columns.specs.declared.line.Line.TheVariants as line
 use Rattle.columns.specs.declared.table_text.Counts.{Counts}
 use Rattle.columns.specs.declared.table_text.Extent.{Extent}
-use Rattle.columns.specs.declared.table_text.Scan.TheVariants.{Form, Order, Room}
 use Rattle.columns.specs.Faults.{refuse}
 use Rattle.columns.specs.Scans.{first_failing}
-use Rattle.columns.specs.TableText.{Said, counted, passes, has_room, start, first_fault, procedures_of, cells_of, code_of, lines_of}
+use Rattle.columns.specs.TableText.{Form, Order, Room, Said, counted, passes, has_room, start, first_fault, procedures_of, cells_of, code_of, lines_of}
 
 passed_by : (b : Bool) (o : Option ℕ) (n : ℕ) → cond b o (Some n) ≡ None → (b ≡ true) × (o ≡ None)
 passed_by true o n e = (refl, e)

@@ -1,7 +1,5 @@
 -- The table that was read is the one that the front of each list holds.
-use Rattle.std.proofs.Common.{◌≡◌, ℕ, ◌-◌, ◌<◌, ◌≤◌, min, List, [], ◌∷◌, length, take, Ok, Err, Result, sym, refl, ap, ◌∙◌, subst, arith}
-use native.Mathlib.Decide.{dec_lt}
-use Rattle.std.proofs.lemmas.List.{take_all}
+use Rattle.std.proofs.Common.{◌≡◌, ℕ, ◌≤◌, List, [], ◌∷◌, length, take, Ok, Err, Result, sym, refl, ap, ◌∙◌, subst, arith}
 use Rattle.sheet.specs.declared.instruction.Instruction.{Instruction}
 use Rattle.sheet.specs.declared.kind.Kind.{Kind}
 use Rattle.sheet.specs.declared.procedure.Procedure.{Procedure}
@@ -21,13 +19,6 @@ use Rattle.prepare.specs.declared.prepare.Prepared.{Prepared}
 use Rattle.prepare.specs.Preparing.{contents_in, ready, prepared, rows_left, places_left, RecordsKept}
 use Rattle.prepare.proofs.Fitting.{read_fits}
 
-pub take_front : {X : Type 0} (n k : ℕ) (xs : List X) → k ≡ min n (length xs) → take (k - 0) xs ≡ take n xs
-take_front n k xs e = by (dec_lt n (length xs))
-  where
-    by : Dec (n < length xs) → take (k - 0) xs ≡ take n xs
-    by (yes h) = let z : k - 0 ≡ n = omega arith in ap (λ m. take m xs) z
-    by (no h) = take_all (k - 0) xs (omega arith) ∙ sym (take_all n xs (omega arith))
-
 front_is : {X : Type 0} (xs ys : List X) → length xs ≤ length ys → take (length xs) (laid xs ys) ≡ xs
 front_is [] ys h = refl
 front_is (x ∷ xs) [] h = absurd (omega arith)
@@ -35,6 +26,19 @@ front_is (x ∷ xs) (y ∷ ys) h = ap (λ zs. x ∷ zs) (front_is xs ys (omega a
 
 front_of : {X : Type 0} (xs ys zs : List X) (n : ℕ) → length xs ≤ length ys → n ≡ length xs → zs ≡ laid xs ys → take n zs ≡ xs
 front_of xs ys zs n h e l = ap (take n) l ∙ ap (λ k. take k (laid xs ys)) e ∙ front_is xs ys h
+
+-- the records that were read fit the lists
+module _ (text : List ℕ) (ps : List Procedure) (ts : List Kind) (is : List Instruction) (e : Extent) where
+  fits_by : (v : Result (Unit {0}) TextFault) → verdict (room_of ps ts is) text ≡ v → Ok e ≡ answered (read_by v text)
+      → (e.procedures ≤ length ps) × (e.cells ≤ length ts) × (e.code ≤ length is)
+  fits_by (Err f) q a = let z : ◌≡◌ {A = ℕ} 0 1 = cc in absurd (omega arith)
+  fits_by (Ok u) q a =
+      let f = read_fits (room_of ps ts is) text u q in
+      let x : e ≡ extent_of (contents (lines_of text)) = cc in
+      (omega (arith, f.0, ap (λ (y : Extent). y.procedures) x), omega (arith, f.1, ap (λ (y : Extent). y.cells) x), omega (arith, f.2, ap (λ (y : Extent). y.code) x))
+
+  pub fits : Ok e ≡ answered (read_table (room_of ps ts is) text) → (e.procedures ≤ length ps) × (e.cells ≤ length ts) × (e.code ≤ length is)
+  fits a = fits_by (verdict (room_of ps ts is) text) refl a
 
 pub record Read (R : Result Contents TextFault) (e : Extent) (ps : List Procedure) (ts : List Kind) (is : List Instruction) : Type 0 where
   pub table : Contents

@@ -13,6 +13,7 @@ pub enum PrepareFault {
 }
 
 impl PrepareFault {
+    // A method, since `u8::from(fault)` would not say what the byte is.
     pub fn number(self) -> u8
         ensures { result ≡ number_of self }
     {

@@ -1,4 +1,4 @@
-ghost use Rattle.std.specs.Prelude.{◌≡◌, length, take};
+ghost use Rattle.std.specs.Prelude.{◌≡◌, ◌≤◌, length};
 ghost use Rattle.columns.specs.TableText.{read_table, room_of, procedures_left, cells_left, code_left};
 ghost use Rattle.rules.specs.Lookups.{contents_of};
 ghost use Rattle.judge.specs.Handing.{meanings};
@@ -20,14 +20,6 @@ pub struct Prepared {
     pub reached: usize,
 }
 
-// The first n elements, or all where there are fewer.
-fn front<T>(xs: &[T], n: usize) -> &[T]
-    ensures { result.now ≡ take n xs.now }
-{
-    let end = n.min(xs.len());
-    &xs[0..end]
-}
-
 // The table that the front of each list holds.
 fn table_in<'a>(
     extent: Extent,
@@ -35,16 +27,20 @@ fn table_in<'a>(
     cells: &'a [Kind],
     code: &'a [Instruction],
 ) -> Table<'a>
+    requires procedures { extent.procedures ≤ length procedures.now }
+    requires cells { extent.cells ≤ length cells.now }
+    requires code { extent.code ≤ length code.now }
     ensures { contents_of result ≡ contents_in extent procedures.now cells.now code.now }
 {
     Table {
-        procedures: front(procedures, extent.procedures),
-        cells: front(cells, extent.cells),
-        code: front(code, extent.code),
+        procedures: &procedures[..extent.procedures],
+        cells: &cells[..extent.cells],
+        code: &code[..extent.code],
     }
 }
 
 // Reads a table's text into the three lists lent for it, then judges the table. A table once read stays in its lists.
+// The lists are lent one by one: of a struct of `&mut`s each clause would have to say too that it still holds the same ones.
 pub fn prepare(
     text: &[u8],
     procedures: &mut [Procedure],

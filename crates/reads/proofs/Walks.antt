@@ -20,9 +20,9 @@ pub base_end : (cs : List Cell) (m n i x : ℕ) → n ≤ i → Ok x ≡ base (n
 unfolding base
 base_end cs m n i x h = let q : n - i ≡ 0 = omega arith in rw q
 
-pub passed_on : (ts : List Kind) (i : ℕ) (d : Kind) (x : ℕ) (cs : List Cell) (y : Value) → i < length ts → Ok y ≡ passes (get_or ts i d) x cs → passed (drop i ts) x cs ≡ passed (drop (i + 1) ts) (x + 1) cs
+pub passed_on : (ts : List Kind) (i : ℕ) (d : Kind) (x : ℕ) (cs : List Cell) (y : Value) → i < length ts → Ok y ≡ passes (get_or ts i d) (x + i) cs → passed (drop i ts) (x + i) cs ≡ passed (drop (i + 1) ts) (x + (i + 1)) cs
 unfolding passed
-passed_on ts i d x cs y h e = rw (drop_more ts i d h, ← e)
+passed_on ts i d x cs y h e = let k : x + (i + 1) ≡ x + i + 1 = omega arith in rw (k, drop_more ts i d h, ← e)
 
 pub passed_off : (ts : List Kind) (i : ℕ) (d : Kind) (x : ℕ) (cs : List Cell) (e : Stop) → i < length ts → Err e ≡ passes (get_or ts i d) x cs → Err e ≡ passed (drop i ts) x cs
 unfolding passed

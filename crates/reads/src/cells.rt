@@ -1,6 +1,5 @@
 // Cells read from the store, and values read from cells.
 ghost use Rattle.std.specs.Prelude.{◌≡◌};
-ghost use Rattle.sheet.specs.Kinds.{same};
 ghost use Rattle.store.specs.Cells.{peek};
 ghost use Rattle.machine.specs.Leaves.{working_in, mark_in, place_in, of_kind, held, writable, stacked, typed, reached};
 
@@ -16,26 +15,13 @@ use store::store::Store;
 pub fn cell_at<S: Store>(store: &S, x: u32) -> Cell
     ensures { result ≡ peek (S.cells store.now) x }
 {
-    match store.read(Slot(x)) {
-        Ok(cell) => cell,
-        Err(_) => Cell::Free,
-    }
-}
-
-fn is_same(kind: Kind, other: Kind) -> bool
-    ensures { result ≡ same kind other }
-{
-    kind.letter() == other.letter()
+    store.read(Slot(x)).unwrap_or(Cell::Free)
 }
 
 pub(crate) fn of_kind(cause: Stop, kind: Kind, x: Value) -> Result<Value, Stop>
     ensures { result ≡ of_kind cause kind x }
 {
-    if is_same(x.kind(), kind) {
-        Ok(x)
-    } else {
-        Err(cause)
-    }
+    if x.kind() == kind { Ok(x) } else { Err(cause) }
 }
 
 pub(crate) fn working_in(cell: Cell) -> Result<Value, Stop>
@@ -60,11 +46,7 @@ pub fn mark_in(cell: Cell) -> Result<i32, Stop>
 pub fn place_in(cell: Cell) -> Result<u32, Stop>
     ensures { result ≡ place_in cell }
 {
-    let number = mark_in(cell)?;
-    if number < 0 {
-        return Err(Stop::WrongMark);
-    }
-    Ok(number as u32)
+    u32::try_from(mark_in(cell)?).map_err(|_| Stop::WrongMark)
 }
 
 // The value of a data cell; `absent` where it is none, `other` where it has another kind.
@@ -73,11 +55,8 @@ pub fn held_in(absent: Stop, other: Stop, kind: Kind, cell: Cell) -> Result<Valu
 {
     match cell {
         Cell::Data(x) => of_kind(other, kind, x),
-        Cell::Blank(own) => if is_same(own, kind) {
-            Err(Stop::NoValueYet)
-        } else {
-            Err(other)
-        },
+        Cell::Blank(own) if own == kind => Err(Stop::NoValueYet),
+        Cell::Blank(_) => Err(other),
         _ => Err(absent),
     }
 }
@@ -91,14 +70,10 @@ pub fn writable(absent: Stop, other: Stop, kind: Kind, cell: Cell) -> Result<(),
         Cell::Blank(own) => own,
         _ => return Err(absent),
     };
-    if is_same(own, kind) {
-        Ok(())
-    } else {
-        Err(other)
-    }
+    if own == kind { Ok(()) } else { Err(other) }
 }
 
-// The working value i cells below the top.
+// The working value i cells below the top; of the store and its height, as a caller may have no machine.
 pub fn stacked_at<S: Store>(store: &S, height: u32, i: u32) -> Result<Value, Stop>
     ensures { result ≡ stacked height i (S.cells store.now) }
 {
@@ -111,21 +86,15 @@ pub fn stacked_at<S: Store>(store: &S, height: u32, i: u32) -> Result<Value, Sto
 pub fn typed_at<S: Store>(store: &S, kind: Kind, height: u32, i: u32) -> Result<Value, Stop>
     ensures { result ≡ typed kind height i (S.cells store.now) }
 {
-    let x = stacked_at(store, height, i)?;
-    of_kind(Stop::WrongCell, kind, x)
+    of_kind(Stop::WrongCell, kind, stacked_at(store, height, i)?)
 }
 
 // A place from 0 to SP.
 pub fn reached(place: StorePlace, height: u32) -> Result<u32, Stop>
     ensures { result ≡ reached place.0 height }
 {
-    if place.0 < 0 {
-        return Err(Stop::NoDataCell);
-    }
-    let x = place.0 as u32;
-    if x < height {
-        Ok(x)
-    } else {
-        Err(Stop::NoDataCell)
-    }
+    u32::try_from(place.0)
+        .ok()
+        .filter(|x| *x < height)
+        .ok_or(Stop::NoDataCell)
 }

@@ -22,11 +22,8 @@ pub fn base_of<S: Store>(store: &S, links: u16, mp: u16) -> Result<u16, Stop>
     ensures { result ≡ base links mp mp (S.cells store.now) }
 {
     let mut x = mp;
-    for i in 0..links {
-        match link_of(store, x, mp) {
-            Ok(y) => x = y,
-            Err(cause) => return Err(cause),
-        }
+    for _ in 0..links {
+        x = link_of(store, x, mp)?;
     }
     Ok(x)
 }

@@ -24,12 +24,8 @@ fn walk<S: Store>(store: &S, kinds: &[Kind], x: u32) -> Result<(), Stop>
     requires room { x + length kinds.now < 2 ^ 32 }
     ensures { result ≡ passed_from kinds.now x (S.cells store.now) }
 {
-    let mut place = x;
-    for kind in kinds {
-        if let Err(cause) = parameter_at(store, *kind, place) {
-            return Err(cause);
-        }
-        place += 1;
+    for (i, kind) in kinds.iter().enumerate() {
+        parameter_at(store, *kind, x + i as u32)?;
     }
     Ok(())
 }

@@ -28,6 +28,3 @@ proper (Mark j) = nat_lt j 8
 abbrev pub cells_of_entry : Entry → ℕ
 cells_of_entry (Value k) = 1
 cells_of_entry (Mark j) = 5
-
-abbrev pub same_entry : Entry → Entry → Bool
-same_entry x y = byte_of x == byte_of y

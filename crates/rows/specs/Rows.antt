@@ -5,7 +5,6 @@
 --   equal_records: whether two records have the same length and the same bytes
 --   EqualRecordsAreOne: such records are the same record, and the other way round; of two rows it says whether they are the
 --     same stack
---   packed_byte: the byte of an entry, if a row may hold it
 --   packed: the record of a stack, if that is a row
 use Rattle.std.specs.Prelude.{◌≡◌, ℕ, ◌-◌, Bool, true, cond, T, ◌&&◌, List, [], ◌∷◌, ◌++◌, map, reverse, length, take, drop, replicate, Some, None, Option, nat_eq, nat_le}
 use Rattle.std.specs.Str.{bytes_eq}
@@ -29,9 +28,6 @@ blanks xs = every (λ b. nat_eq b 0) xs
 abbrev pub is_row : Row → Bool
 is_row r = nat_le r.len 40 && (every proper (entries r) && blanks (drop r.len r.bytes))
 
-abbrev pub bottom_up : Row → Option (List Entry)
-bottom_up r = cond (is_row r) (Some (entries r)) None
-
 abbrev pub meaning : Row → Option (List Entry)
 meaning r = cond (is_row r) (Some (reverse (entries r))) None
 
@@ -54,10 +50,6 @@ pub record OneRecord (a b : Row) : Type 0 where
 
 abbrev pub EqualRecordsAreOne : Type 0
 EqualRecordsAreOne = (a b : Row) → OneRecord a b
-
--- the byte of an entry that a row may hold
-abbrev pub packed_byte : Entry → Option ℕ
-packed_byte e = cond (proper e) (Some (byte_of e)) None
 
 -- the record of a list of entries, the bottom first
 abbrev pub record_of : List Entry → Row

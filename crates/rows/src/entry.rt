@@ -1,40 +1,44 @@
 ghost use Rattle.std.specs.Prelude.{◌≡◌};
-ghost use Rattle.rows.specs.Entries.{entry_of, proper, byte_of, cells_of_entry, same_entry};
+ghost use Rattle.rows.specs.Entries.{entry_of, proper, byte_of, cells_of_entry};
 
 use sheet::kind::Kind;
 
 // What lies on a stack under judgement: a value of a kind, or the five marks of a call to come,
 // with how many static links lead to the frame that the callee's declaration lies in.
-#[derive(Clone, Copy, Drop)]
+#[derive(Clone, Copy, PartialEq, Eq, Debug, Drop)]
 pub enum Entry {
     Value(Kind),
     Mark(u8),
 }
 
-impl Entry {
-    // The entry that a byte stands for; a byte of no entry reads as a mark that no stack has.
-    pub fn of_byte(byte: u8) -> Entry
-        ensures { result ≡ entry_of byte }
-    {
+// The entry that a byte stands for; a byte of no entry reads as a mark that no stack has, where a line reader refuses.
+impl From<u8> for Entry {
+    ghost from_gives = { λ x y. y ≡ entry_of x };
+
+    fn from(byte: u8) -> Entry {
         match byte {
-            97 => Entry::Value(Kind::Address),
-            98 => Entry::Value(Kind::Boolean),
-            99 => Entry::Value(Kind::Character),
-            105 => Entry::Value(Kind::Integer),
-            114 => Entry::Value(Kind::Real),
+            b'a' => Entry::Value(Kind::Address),
+            b'b' => Entry::Value(Kind::Boolean),
+            b'c' => Entry::Value(Kind::Character),
+            b'i' => Entry::Value(Kind::Integer),
+            b'r' => Entry::Value(Kind::Real),
             _ => Entry::Mark(byte),
         }
     }
+}
 
-    pub fn byte(self) -> u8
-        ensures { result ≡ byte_of self }
-    {
-        match self {
+impl From<Entry> for u8 {
+    ghost from_gives = { λ x y. y ≡ byte_of x };
+
+    fn from(entry: Entry) -> u8 {
+        match entry {
             Entry::Value(kind) => kind.letter(),
             Entry::Mark(links) => links,
         }
     }
+}
 
+impl Entry {
     // Whether a stack may hold it: a mark is 0 to 7.
     pub fn is_proper(self) -> bool
         ensures { result ≡ proper self }

@@ -1,7 +1,7 @@
-ghost use Rattle.std.specs.Prelude.{◌≡◌, true, T, map, Some, None, ◌==◌, ◌&&◌, nat_eq, nat_lt};
+ghost use Rattle.std.specs.Prelude.{◌≡◌, ◌≤◌, true, T, map, length, ◌&&◌, nat_eq, IsTrue, ◌↔◌, All};
 ghost use Rattle.std.specs.List.{slice_get};
 ghost use Rattle.rows.specs.Entries.{entry_of, proper};
-ghost use Rattle.rows.specs.Rows.{entries, same, equal_records, EqualRecordsAreOne, every, blanks, is_row, no_row, empty_row, packed_byte, packed};
+ghost use Rattle.rows.specs.Rows.{entries, same, equal_records, EqualRecordsAreOne, every, blanks, is_row, no_row, empty_row, packed};
 ghost use Rattle.pile.specs.Piles.{bottom_first};
 ghost use Rattle.std.specs.Cmp.Rules.{comparing};
 ghost use Rattle.std.specs.Cmp.Lexicographic.{pointwise};
@@ -11,13 +11,14 @@ use crate::entry::Entry;
 use pile::Pile;
 
 // A record is a row where its length is at most forty, each byte before it is an entry and each byte past it is 0.
-// Any other record is unreached. So two rows are equal exactly where their records are.
-#[derive(Clone, Copy, Drop)]
+// Any other record is unreached. So two rows are equal exactly where their records are. By value: it is copied and written whole.
+#[derive(Clone, Copy, Debug, Drop)]
 pub struct Row {
     len: u8,
     bytes: [u8; 40],
 }
 
+// Not derived: the contract says of two rows that they are the same stack.
 impl PartialEq for Row {
     ghost eq = { equal_records };
 
@@ -31,50 +32,20 @@ impl PartialEq for Row {
         ensures law { EqualRecordsAreOne }
         ensures stacks { is_row self.now ≡ true → is_row other.now ≡ true → result ≡ same (entries self.now) (entries other.now) }
     {
-        if self.len != other.len {
-            return false;
-        }
-        self.bytes == other.bytes
+        self.len == other.len && self.bytes == other.bytes
     }
 }
 
 fn all_proper(bytes: &[u8]) -> bool
-    ensures { result ≡ every proper (map entry_of bytes.now) }
+    ensures { IsTrue result ↔ All (λ b. proper (entry_of b) ≡ true) bytes.now }
 {
-    for b in bytes {
-        if !Entry::of_byte(*b).is_proper() {
-            return false;
-        }
-    }
-    true
-}
-
-fn is_blank(byte: u8) -> bool
-    ensures { result ≡ (byte == 0) }
-{
-    byte == 0
+    bytes.iter().all(|&byte| Entry::from(byte).is_proper())
 }
 
 fn all_blank(bytes: &[u8]) -> bool
-    ensures { result ≡ blanks bytes.now }
+    ensures { IsTrue result ↔ All (λ b. b ≡ 0) bytes.now }
 {
-    for b in bytes {
-        if !is_blank(*b) {
-            return false;
-        }
-    }
-    true
-}
-
-// The byte of an entry, if a stack may hold it.
-fn packed_byte(entry: Entry) -> Option<u8>
-    ensures { result ≡ packed_byte entry }
-{
-    if entry.is_proper() {
-        Some(entry.byte())
-    } else {
-        None
-    }
+    bytes.iter().all(|&byte| byte == 0)
 }
 
 impl Row {
@@ -99,14 +70,10 @@ impl Row {
     pub fn is_reached(self) -> bool
         ensures { result ≡ is_row self }
     {
-        let n = self.len as usize;
-        if n > 40 {
-            return false;
+        match self.bytes.split_at_checked(self.len as usize) {
+            Some((entries, rest)) => all_proper(entries) && all_blank(rest),
+            None => false,
         }
-        if !all_proper(&self.bytes[0..n]) {
-            return false;
-        }
-        all_blank(&self.bytes[n..])
     }
 
     // How many entries it has; an unreached record may say any number.
@@ -116,46 +83,39 @@ impl Row {
         self.len as usize
     }
 
-    // Whether place i lies before its length.
-    fn holds(self, i: usize) -> bool
-        ensures { result ≡ nat_lt i self.len }
+    // The bytes of its entries from the bottom, of a record that is a row or not.
+    pub fn entry_bytes(&self) -> &[u8]
+        ensures entries { map entry_of result.now ≡ entries self.now }
+        ensures few { length result.now ≤ 40 }
     {
-        i < self.len()
+        &self.bytes[..self.len().min(40)]
     }
 
     // The i-th entry from the bottom, of a record that is a row or not.
     pub fn entry(self, i: usize) -> Option<Entry>
         ensures { result ≡ slice_get (entries self) i }
     {
-        if !self.holds(i) {
-            return None;
-        }
-        if i >= 40 {
-            return None;
-        }
-        Some(Entry::of_byte(self.bytes[i]))
+        self.entry_bytes().get(i).map(|&byte| Entry::from(byte))
     }
 
     // The row of a stack, if it has at most forty entries and each is proper.
     pub fn pack(stack: &Pile<'_, Entry>) -> Option<Row>
         ensures { result ≡ packed (bottom_first stack.now) }
     {
-        let n = stack.len();
-        if n > 40 {
+        let entries = stack.as_slice();
+        if entries.len() > 40 {
             return None;
         }
-        let mut bytes = [0u8; 40];
-        for i in 0..n {
-            let Some(entry) = stack.at(i) else {
+        let mut bytes = [0; 40];
+        // by index, since a zip with `iter_mut` does not tell what the bytes end as
+        for (i, entry) in entries.iter().enumerate() {
+            if !entry.is_proper() {
                 return None;
-            };
-            let Some(byte) = packed_byte(entry) else {
-                return None;
-            };
-            bytes[i] = byte;
+            }
+            bytes[i] = u8::from(*entry);
         }
         Some(Row {
-            len: n as u8,
+            len: entries.len() as u8,
             bytes,
         })
     }

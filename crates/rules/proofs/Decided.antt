@@ -1,8 +1,9 @@
 -- Tests that decide a rule, and the lowest place at which one fails.
-use Rattle.std.proofs.Common.{◌≡◌, ℕ, zero, suc, ◌+◌, ◌<◌, ◌≤◌, Bool, true, false, cond, not, leb, List, [], ◌∷◌, length, get_or, drop, is_some, Some, None, Decides, Option, sym, refl, ap, ◌∙◌, subst, add-zero, zero-add, arith}
-use Rattle.std.specs.List.{slice_get}
-use Rattle.std.proofs.lemmas.List.{at_drop_more, at_drop_all}
-use Rattle.std.proofs.lemmas.Bool.{leb-true, le-leb, false≢true}
+use Rattle.std.proofs.Common.{◌≡◌, ℕ, zero, suc, ◌+◌, ◌<◌, ◌≤◌, Bool, true, false, cond, not, leb, ltb, List, [], ◌∷◌, length, is_some, Some, None, Decides, Option, sym, refl, ap, ◌∙◌, subst, add-zero, zero-add, arith}
+use Rattle.std.specs.List.{slice_get, position, enumerate_from, prefix_len}
+use Rattle.std.specs.Option.{option_map}
+use Rattle.std.proofs.lemmas.Bool.{leb-true, le-leb, ltb-true, lt-ltb, false≢true}
+use Rattle.std.proofs.lemmas.Bool.Decides.{Decides-ltb, same_from_decides}
 use Rattle.rules.specs.Faults.{lowest}
 use Rattle.rules.specs.Throughout.{HoldsThroughout, BreaksFirst}
 
@@ -16,22 +17,39 @@ pub decides_none : {X : Type 0} (x : Option X) → Decides (not (is_some x)) (x 
 decides_none None = ((λ e. refl), λ e. refl)
 decides_none (Some x) = ((λ e. no_clash e), λ e. absurd (let z : ◌≡◌ {A = ℕ} 0 1 = cc in omega arith))
 
--- ---- one step of a loop that looks for the lowest place
-more : {X : Type 0} (f : ℕ → X → Bool) (xs : List X) (i : ℕ) (d : X) (b : Bool) (E : Option ℕ) → i < length xs → b ≡ f i (get_or xs i d)
-    → lowest f i (drop i xs) ≡ E → cond b (lowest f (i + 1) (drop (i + 1) xs)) (Some i) ≡ E
-more f xs i d b E h e inv =
-    ap (λ t. cond t (lowest f (i + 1) (drop (i + 1) xs)) (Some i)) e ∙ sym (at_drop_more (lowest f i) xs i d h) ∙ inv
+-- ---- the search by `position`
+ltb-suc : (a b : ℕ) → ltb (1 + a) (suc b) ≡ ltb a b
+ltb-suc a b = same_from_decides (ltb (1 + a) (suc b)) (ltb a b) (Decides-ltb (1 + a) (suc b)) ((λ e. let h = ltb-true a b e in omega arith), λ h. lt-ltb a b (omega arith))
 
-pub fails_here : {X : Type 0} (f : ℕ → X → Bool) (xs : List X) (i : ℕ) (d : X) (b : Bool) (E : Option ℕ) → i < length xs → b ≡ f i (get_or xs i d) → b ≡ false
-    → lowest f i (drop i xs) ≡ E → Some i ≡ E
-fails_here f xs i d b E h e t inv = ap (λ t. cond t (lowest f (i + 1) (drop (i + 1) xs)) (Some i)) (sym t) ∙ more f xs i d b E h e inv
+from_place : {X : Type 0} (test : ℕ → X → Bool) (i : ℕ) (xs : List X)
+    → lowest test i xs ≡ option_map (λ k. i + k) (position (λ x. not (test x.0 x.1)) (enumerate_from i xs))
+from_place test i [] = refl
+from_place {X} test i (x ∷ xs) = see (test i x) (from_place test (i + 1) xs)
+  where
+    es : List (ℕ × X)
+    es = enumerate_from (i + 1) xs
 
-pub holds_here : {X : Type 0} (f : ℕ → X → Bool) (xs : List X) (i : ℕ) (d : X) (b : Bool) (E : Option ℕ) → i < length xs → b ≡ f i (get_or xs i d) → b ≡ true
-    → lowest f i (drop i xs) ≡ E → lowest f (i + 1) (drop (i + 1) xs) ≡ E
-holds_here f xs i d b E h e t inv = ap (λ t. cond t (lowest f (i + 1) (drop (i + 1) xs)) (Some i)) (sym t) ∙ more f xs i d b E h e inv
+    m : ℕ
+    m = prefix_len (λ x. not (not (test x.0 x.1))) es
 
-pub holds_to_the_end : {X : Type 0} (f : ℕ → X → Bool) (xs : List X) (i : ℕ) (E : Option ℕ) → length xs ≤ i → lowest f i (drop i xs) ≡ E → None ≡ E
-holds_to_the_end f xs i E h inv = sym (at_drop_all (lowest f i) xs i h) ∙ inv
+    see : (b : Bool) → lowest test (i + 1) xs ≡ option_map (λ k. i + 1 + k) (cond (ltb m (length es)) (Some m) None)
+        → cond b (lowest test (i + 1) xs) (Some i)
+        ≡ option_map (λ k. i + k) (cond (ltb (cond (not (not b)) (1 + m) 0) (suc (length es))) (Some (cond (not (not b)) (1 + m) 0)) None)
+    see true h = h ∙ by (ltb m (length es)) ∙ ap (λ c. option_map (λ k. i + k) (cond c (Some (1 + m)) None)) (sym (ltb-suc m (length es)))
+      where
+        by : (c : Bool) → option_map (λ k. i + 1 + k) (cond c (Some m) None) ≡ option_map (λ k. i + k) (cond c (Some (1 + m)) None)
+        by true = let e : i + 1 + m ≡ i + (1 + m) = omega arith in ap Some e
+        by false = refl
+    see false h =
+        let z : ltb 0 (suc (length es)) ≡ true = lt-ltb 0 (suc (length es)) (omega arith) in
+        ap Some (sym (add-zero i)) ∙ ap (λ c. option_map (λ k. i + k) (cond c (Some 0) None)) (sym z)
+
+pub lowest_by_position : {X : Type 0} (test : ℕ → X → Bool) (xs : List X) → lowest test 0 xs ≡ position (λ x. not (test x.0 x.1)) (enumerate_from 0 xs)
+lowest_by_position test xs = from_place test 0 xs ∙ same_option (position (λ x. not (test x.0 x.1)) (enumerate_from 0 xs))
+  where
+    same_option : (o : Option ℕ) → option_map (λ k. 0 + k) o ≡ o
+    same_option None = refl
+    same_option (Some k) = ap Some (zero-add k)
 
 -- ---- what the lowest place means
 holds_from : {X : Type 0} (f : ℕ → X → Bool) (i : ℕ) (xs : List X) → lowest f i xs ≡ None → (j : ℕ) (x : X) → slice_get xs j ≡ Some x → f (i + j) x ≡ true

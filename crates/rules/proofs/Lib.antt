@@ -1,6 +1,7 @@
+mod Lookups
 pub mod Decided
 pub mod EffectLaws
 pub mod LookupLaws
-mod Lookups
 pub mod OperandLaws
 pub mod ProcedureLaws
+pub mod SameLetters

@@ -1,38 +1,37 @@
--- Steps of the climb to an ancestor and of the count of procedures.
-use Rattle.std.proofs.Common.{◌≡◌, ℕ, zero, suc, ◌+◌, ◌-◌, ◌<◌, ◌≤◌, cond, leb, List, length, get_or, drop, None, sym, refl, ap, ◌∙◌, sub-one, arith}
-use Rattle.std.proofs.lemmas.List.{at_drop_more, at_drop_all}
-use Rattle.std.proofs.lemmas.Bool.{le-leb, lt-leb}
+-- Steps of the climb to an ancestor, and the count of procedures.
+use Rattle.std.proofs.Common.{◌≡◌, ℕ, zero, suc, ◌+◌, ◌-◌, ◌<◌, ◌≤◌, Bool, true, false, cond, leb, List, [], ◌∷◌, length, sym, refl, ◌∙◌, add-zero, zero-add, sub-one, arith}
+use Rattle.std.specs.List.{prefix_len, take_while}
+use Rattle.std.proofs.lemmas.List.{length-take-le}
 use Rattle.sheet.specs.declared.procedure.Procedure.{Procedure}
 use Rattle.sheet.specs.Tables.{Contents}
 use Rattle.rules.specs.Lookups.{procedure_at, ancestor, begun}
-
-pub climb_none : (T : Contents) (left a : ℕ) → 0 < left → a ≡ 0 → ancestor T left a ≡ None
-climb_none T zero a h e = absurd (omega arith)
-climb_none T (suc j) zero h e = refl
-climb_none T (suc j) (suc n) h e = absurd (omega arith)
 
 pub climb_more : (T : Contents) (left a : ℕ) → 0 < left → (a ≡ 0 → ⊥) → ancestor T left a ≡ ancestor T (left - 1) (procedure_at T a).parent
 climb_more T zero a h e = absurd (omega arith)
 climb_more T (suc j) zero h e = absurd (e refl)
 climb_more T (suc j) (suc n) h e = rw (sub-one (suc j))
 
--- the count from procedure i on, by whether that one begins at or below n
-step : (Ps : List Procedure) (i n : ℕ) (d : Procedure) → i < length Ps
-    → begun i (drop i Ps) n ≡ cond (leb (get_or Ps i d).first n) (begun (i + 1) (drop (i + 1) Ps) n) i
-step Ps i n d h = at_drop_more (λ xs. begun i xs n) Ps i d h
+-- those that begin at or below n stand in front
+begun_from : (i : ℕ) (Ps : List Procedure) (n : ℕ) → begun i Ps n ≡ i + prefix_len (λ P. leb P.first n) Ps
+begun_from i [] n = sym (add-zero i)
+begun_from i (P ∷ Ps) n = see (leb P.first n) (begun_from (i + 1) Ps n)
+  where
+    m : ℕ
+    m = prefix_len (λ P. leb P.first n) Ps
 
-pub begun_past : (Ps : List Procedure) (i n : ℕ) (d : Procedure) (E : ℕ) → i < length Ps → n < (get_or Ps i d).first → begun i (drop i Ps) n ≡ E → i ≡ E
-begun_past Ps i n d E h l inv =
-    let t = lt-leb (get_or Ps i d).first n l in
-    sym (step Ps i n d h ∙ ap (λ b. cond b (begun (i + 1) (drop (i + 1) Ps) n) i) t) ∙ inv
+    see : (b : Bool) → begun (i + 1) Ps n ≡ i + 1 + m → cond b (begun (i + 1) Ps n) i ≡ i + cond b (1 + m) 0
+    see true h = omega arith
+    see false h = sym (add-zero i)
 
-pub begun_more : (Ps : List Procedure) (i n : ℕ) (d : Procedure) (E : ℕ) → i < length Ps → (get_or Ps i d).first ≤ n → begun i (drop i Ps) n ≡ E
-    → begun (i + 1) (drop (i + 1) Ps) n ≡ E
-begun_more Ps i n d E h l inv =
-    let t = le-leb (get_or Ps i d).first n l in
-    sym (step Ps i n d h ∙ ap (λ b. cond b (begun (i + 1) (drop (i + 1) Ps) n) i) t) ∙ inv
+few : {X : Type 0} (p : X → Bool) (xs : List X) → prefix_len p xs ≤ length xs
+few p [] = omega arith
+few {X} p (x ∷ xs) = see (p x) (few p xs)
+  where
+    see : (b : Bool) → prefix_len p xs ≤ length xs → cond b (1 + prefix_len p xs) 0 ≤ suc (length xs)
+    see true h = omega arith
+    see false h = omega arith
 
-pub begun_all : (Ps : List Procedure) (i n : ℕ) (E : ℕ) → length Ps ≤ i → i ≤ length Ps → begun i (drop i Ps) n ≡ E → length Ps ≡ E
-begun_all Ps i n E h k inv =
-    let e : length Ps ≡ i = omega arith in
-    e ∙ (sym (at_drop_all (λ xs. begun i xs n) Ps i h) ∙ inv)
+pub begun_counts : (Ps : List Procedure) (n : ℕ) → length (take_while (λ P. leb P.first n) Ps) ≡ begun 0 Ps n
+begun_counts Ps n =
+    length-take-le (prefix_len (λ P. leb P.first n) Ps) Ps (few (λ P. leb P.first n) Ps)
+    ∙ sym (begun_from 0 Ps n ∙ zero-add (prefix_len (λ P. leb P.first n) Ps))

@@ -1,6 +1,6 @@
 ghost use Rattle.std.specs.Prelude.{◌≡◌};
 ghost use Rattle.rules.specs.Lookups.{contents_of};
-ghost use Rattle.rules.specs.Effects.{one, two, next as goes_on, calls, effect_by, effect_of};
+ghost use Rattle.rules.specs.Effects.{one, two, next as goes_on, calls, effect_of};
 ghost use Rattle.rules.specs.EffectLaws.{EffectsAreSound};
 
 use crate::lookup::{natural, owner, procedure_at};
@@ -70,26 +70,21 @@ fn goes_on(takes: Takes, gives: Gives) -> Effect
 fn call(procedure: Procedure) -> Effect
     ensures { result ≡ calls procedure }
 {
-    let gives = match procedure.result {
-        None => Gives::Nothing,
-        Some(kind) => Gives::One(kind),
-    };
+    let gives = procedure.result.map_or(Gives::Nothing, Gives::One);
     goes_on(Takes::Call(procedure), gives)
 }
 
-// The effect of a mnemonic as instruction n, with letters t and t2 and operands p and q.
-fn by_mnemonic(
-    table: Table<'_>,
-    n: usize,
-    t: Kind,
-    t2: Kind,
-    p: usize,
-    q: usize,
-    mnemonic: Mnemonic,
-) -> Effect
-    ensures { result ≡ effect_by (contents_of table.entry) n t t2 p q mnemonic }
+// What instruction n, which is x, takes and gives, and where it goes on.
+#[tactic(auto, using(crate::proofs::EffectLaws::effects_are_sound))]
+pub fn effect_of(table: Table<'_>, n: usize, x: Instruction) -> Effect
+    ensures value { result ≡ effect_of (contents_of table.entry) n x }
+    ensures law { EffectsAreSound }
 {
-    match mnemonic {
+    let t = x.t.unwrap_or(Kind::Address);
+    let t2 = x.t2.unwrap_or(Kind::Address);
+    let p = natural(x.p);
+    let q = natural(x.q);
+    match x.mnemonic {
         Mnemonic::Add | Mnemonic::Sub | Mnemonic::Mul | Mnemonic::Div => goes_on(
             two(t, t),
             Gives::One(t),
@@ -140,14 +135,4 @@ fn by_mnemonic(
             way: Way::Halt,
         },
     }
-}
-
-// What instruction n, which is x, takes and gives, and where it goes on.
-pub fn effect_of(table: Table<'_>, n: usize, x: Instruction) -> Effect
-    ensures value { result ≡ effect_of (contents_of table.entry) n x }
-    ensures law { EffectsAreSound }
-{
-    let t = x.t.unwrap_or(Kind::Address);
-    let t2 = x.t2.unwrap_or(Kind::Address);
-    by_mnemonic(table, n, t, t2, natural(x.p), natural(x.q), x.mnemonic)
 }

@@ -1,5 +1,5 @@
 ghost use Rattle.std.specs.Prelude.{◌≡◌};
-ghost use Rattle.rules.specs.Faults.{fault_number, fault_place, passed};
+ghost use Rattle.rules.specs.Faults.{fault_number, fault_place};
 
 // Why a table is refused.
 #[derive(Clone, Copy, PartialEq, Eq, Debug, Drop)]
@@ -15,6 +15,7 @@ pub enum TableFault {
 }
 
 impl TableFault {
+    // A method, since `u8::from` would not say that it is the number of a refusal.
     pub fn number(self) -> u8
         ensures { result ≡ fault_number self }
     {
@@ -30,7 +31,7 @@ impl TableFault {
         }
     }
 
-    // The procedure or the instruction that it names; 0 where it names none.
+    // The procedure or the instruction that it names; 0 where it names none, since a refusal is written as two numbers.
     pub fn place(self) -> usize
         ensures { result ≡ fault_place self }
     {
@@ -44,15 +45,5 @@ impl TableFault {
             | TableFault::RowTooHigh(n) => n,
             TableFault::TooFewPlaces => 0,
         }
-    }
-}
-
-// The answer of a check that finds this fault, or none.
-pub(crate) fn passed(fault: Option<TableFault>) -> Result<(), TableFault>
-    ensures { result ≡ passed fault }
-{
-    match fault {
-        None => Ok(()),
-        Some(fault) => Err(fault),
     }
 }

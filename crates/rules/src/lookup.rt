@@ -1,60 +1,43 @@
-// Finding the parts of a table. Every function answers for every number, so that no caller has to keep a bound.
-ghost use Rattle.std.specs.Prelude.{◌≡◌};
-ghost use Rattle.std.specs.List.{slice_get};
-ghost use Rattle.rules.specs.Lookups.{contents_of, procedure_at, ancestor, begun, owner, index, natural, enters, room_of, room_at};
+// Finding the parts of a table, by functions and no methods, since a table is the sheet's type.
+// Every function answers for every number, so that no caller has to keep a bound.
+ghost use Rattle.std.specs.Prelude.{◌≡◌, length, take_while, nat_le};
+ghost use Rattle.rules.specs.Lookups.{contents_of, procedure_at, ancestor, owner, index, natural, enters, room_at};
 ghost use Rattle.rules.specs.LookupLaws.{RoomsAreSmall};
 
-use sheet::instruction::Instruction;
 use sheet::procedure::Procedure;
 use sheet::shape::Rule;
 use sheet::table::Table;
-
-const NO_PROCEDURE: Procedure = Procedure {
-    parent: 0,
-    first: 0,
-    parameters: 0,
-    result: None,
-    offset: 0,
-    count: 0,
-};
 
 // Procedure n; an empty one past the end.
 pub fn procedure_at(table: Table<'_>, n: usize) -> Procedure
     ensures { result ≡ procedure_at (contents_of table.entry) n }
 {
-    if n < table.procedures.len() {
-        table.procedures[n]
-    } else {
-        NO_PROCEDURE
-    }
+    table.procedures.get(n).copied().unwrap_or(Procedure::NONE)
 }
 
 // The j-th ancestor of procedure n.
 pub fn ancestor(table: Table<'_>, j: usize, n: usize) -> Option<usize>
     ensures { result ≡ ancestor (contents_of table.entry) j n }
 {
-    let mut left = j;
     let mut a = n;
-    while left > 0 {
+    for _ in 0..j {
         if a == 0 {
             return None;
         }
         a = procedure_at(table, a).parent as usize;
-        left -= 1;
     }
     Some(a)
 }
 
 // How many procedures, from the first on, begin at or below instruction n.
 fn begun(table: Table<'_>, n: usize) -> usize
-    ensures { result ≡ begun 0 table.entry.procedures.now n }
+    ensures { result ≡ length (take_while (λ p. nat_le p.first n) table.entry.procedures.now) }
 {
-    for (i, procedure) in table.procedures.iter().enumerate() {
-        if procedure.first as usize > n {
-            return i;
-        }
-    }
-    table.procedures.len()
+    table
+        .procedures
+        .iter()
+        .take_while(|procedure| procedure.first as usize <= n)
+        .count()
 }
 
 // The procedure that instruction n lies in.
@@ -68,11 +51,7 @@ pub fn owner(table: Table<'_>, n: usize) -> usize
 pub(crate) fn index(operand: i32) -> Option<usize>
     ensures { result ≡ index operand }
 {
-    if operand < 0 {
-        None
-    } else {
-        Some(operand as usize)
-    }
+    usize::try_from(operand).ok()
 }
 
 // A negative operand counts as 0.
@@ -85,39 +64,18 @@ pub(crate) fn natural(operand: i32) -> usize
 pub(crate) fn enters(rule: Rule) -> bool
     ensures { result ≡ enters rule }
 {
-    match rule {
-        Rule::Enter => true,
-        _ => false,
-    }
-}
-
-fn instruction_at(table: Table<'_>, n: usize) -> Option<Instruction>
-    ensures { result ≡ slice_get table.entry.code.now n }
-{
-    if n < table.code.len() {
-        Some(table.code[n])
-    } else {
-        None
-    }
-}
-
-fn room_of(instruction: Option<Instruction>) -> usize
-    ensures { result ≡ room_of instruction }
-{
-    match instruction {
-        None => 0,
-        Some(x) => if enters(x.mnemonic.shape().rule) {
-            natural(x.p)
-        } else {
-            0
-        },
-    }
+    rule == Rule::Enter
 }
 
 // How many cells of stack the ent of the procedure of instruction n allows.
+#[tactic(auto, using(crate::proofs::LookupLaws::rooms_are_small))]
 pub fn room_at(table: Table<'_>, n: usize) -> usize
     ensures value { result ≡ room_at (contents_of table.entry) n }
     ensures law { RoomsAreSmall }
 {
-    room_of(instruction_at(table, procedure_at(table, owner(table, n)).first as usize))
+    let first = procedure_at(table, owner(table, n)).first as usize;
+    match table.code.get(first) {
+        Some(x) if enters(x.mnemonic.shape().rule) => natural(x.p),
+        _ => 0,
+    }
 }

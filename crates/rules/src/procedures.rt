@@ -1,12 +1,13 @@
 // The rules of tables.
-ghost use Rattle.std.specs.Prelude.{◌≡◌};
+ghost use Rattle.std.specs.Prelude.{◌≡◌, not, position};
+ghost use Rattle.std.specs.List.{enumerate_from};
 ghost use Rattle.rules.specs.Lookups.{contents_of};
 ghost use Rattle.rules.specs.Procedures.{main_ok, form_ok, depth_ok, sizes_ok, end_of, start_of, cells_ok, procedure_ok, counts_ok, table_fault};
 ghost use Rattle.rules.specs.ProcedureLaws.{TableIsChecked, TableNames};
-ghost use Rattle.rules.specs.Faults.{lowest, passed};
+ghost use Rattle.rules.specs.Faults.{passed};
 ghost use Rattle.rules.specs.LookupLaws.{OwnersBeginLast};
 
-use crate::fault::{TableFault, passed};
+use crate::fault::TableFault;
 use crate::lookup::{ancestor, procedure_at};
 use sheet::procedure::Procedure;
 use sheet::table::Table;
@@ -91,41 +92,34 @@ fn procedure_ok(table: Table<'_>, n: usize, procedure: Procedure) -> bool
 fn counts_ok(table: Table<'_>) -> bool
     ensures { result ≡ counts_ok (contents_of table.entry) }
 {
-    let code = table.code.len();
-    let procedures = table.procedures.len();
-    (1 <= code && code <= MOST_CODE) && (1 <= procedures && procedures <= MOST_PROCEDURES)
+    (1..=MOST_CODE).contains(&table.code.len())
+        && (1..=MOST_PROCEDURES).contains(&table.procedures.len())
 }
 
 // The lowest procedure that breaks a rule.
 fn lowest_ill_formed(table: Table<'_>) -> Option<usize>
-    ensures { result ≡ lowest (procedure_ok (contents_of table.entry)) 0 table.entry.procedures.now }
+    ensures { result ≡ position (λ x. not (procedure_ok (contents_of table.entry) x.0 x.1)) (enumerate_from 0 table.entry.procedures.now) }
 {
-    for (n, procedure) in table.procedures.iter().enumerate() {
-        if !procedure_ok(table, n, *procedure) {
-            return Some(n);
-        }
-    }
-    None
-}
-
-fn table_fault(table: Table<'_>) -> Option<TableFault>
-    ensures { result ≡ table_fault (contents_of table.entry) }
-{
-    if !counts_ok(table) {
-        return Some(TableFault::IllFormed(0));
-    }
-    match lowest_ill_formed(table) {
-        None => None,
-        Some(n) => Some(TableFault::IllFormed(n)),
-    }
+    table
+        .procedures
+        .iter()
+        .enumerate()
+        .position(|(n, procedure)| !procedure_ok(table, n, *procedure))
 }
 
 // Refuses a table that breaks one of the rules of tables.
+#[tactic(auto, using(crate::proofs::Decided::lowest_by_position, crate::proofs::ProcedureLaws::table_is_checked, crate::proofs::ProcedureLaws::table_names, crate::proofs::LookupLaws::owners_begin_last))]
 pub fn check_table(table: Table<'_>) -> Result<(), TableFault>
     ensures value { result ≡ passed (table_fault (contents_of table.entry)) }
     ensures law { TableIsChecked }
     ensures names { TableNames }
     ensures owners { OwnersBeginLast }
 {
-    passed(table_fault(table))
+    if !counts_ok(table) {
+        return Err(TableFault::IllFormed(0));
+    }
+    match lowest_ill_formed(table) {
+        Some(n) => Err(TableFault::IllFormed(n)),
+        None => Ok(()),
+    }
 }

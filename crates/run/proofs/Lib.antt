@@ -1,4 +1,4 @@
-pub mod Freeing
+pub mod Filling
 pub mod Listing
 pub mod Promising
 pub mod Undergoing

@@ -1,12 +1,13 @@
 // The calls on a run, and what they answer.
 ghost use Rattle.std.specs.Prelude.{◌≡◌};
 ghost use Rattle.run.specs.Answers.{finish_of, finish_number, fault_number};
+ghost use Rattle.run.specs.Undergone.{found};
 
 use machine::ending::Ending;
 use sheet::place::{CodePlace, StorePlace};
 use store::cell::Cell;
 
-// How a go came to its end.
+// How a go came to its end; no Result, since over another store a go still answers, with a count of 0.
 #[derive(Clone, Copy, Drop)]
 pub enum Finish {
     Spent, // 0: all steps are done
@@ -15,6 +16,7 @@ pub enum Finish {
 }
 
 impl Finish {
+    // A method, since `u8::from` would not say that it is the number of a refusal.
     pub fn number(self) -> u8
         ensures { result ≡ finish_number self }
     {
@@ -24,11 +26,13 @@ impl Finish {
             Finish::OtherStore => 34,
         }
     }
+}
 
-    pub(crate) fn of(ending: Option<Ending>) -> Finish
-        ensures { result ≡ finish_of ending }
-    {
-        match ending {
+impl From<Option<Ending>> for Finish {
+    ghost from_gives = { λ x y. y ≡ finish_of x };
+
+    fn from(value: Option<Ending>) -> Finish {
+        match value {
             None => Finish::Spent,
             Some(ending) => Finish::Ended(ending),
         }
@@ -50,6 +54,7 @@ pub enum LookFault {
 }
 
 impl LookFault {
+    // A method, since `u8::from` would not say that it is the number of a refusal.
     pub fn number(self) -> u8
         ensures { result ≡ fault_number self }
     {
@@ -77,10 +82,22 @@ pub enum Call {
     Report,
 }
 
+// Found and Refused are cases of their own, so that an answer is taken apart by one match.
 #[derive(Clone, Copy, Drop)]
 pub enum Answer {
     Went(Went),
     Found(Cell),
     Refused(LookFault),
     Registers(Report),
+}
+
+impl From<Result<Cell, LookFault>> for Answer {
+    ghost from_gives = { λ x y. y ≡ found x };
+
+    fn from(value: Result<Cell, LookFault>) -> Answer {
+        match value {
+            Ok(cell) => Answer::Found(cell),
+            Err(fault) => Answer::Refused(fault),
+        }
+    }
 }

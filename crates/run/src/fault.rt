@@ -1,8 +1,9 @@
 // Why a list of calls is refused whole.
 ghost use Rattle.std.specs.Prelude.{◌≡◌};
 ghost use Rattle.run.specs.Faults.{undergo_number, undergo_place};
-ghost use Rattle.run.specs.declared.fault.UndergoFault.TheVariants.{Table};
+ghost use Rattle.run.specs.declared.fault.UndergoFault.TheVariants.{Table, StoreLength};
 
+use crate::run::Refused;
 use rules::fault::TableFault;
 
 #[derive(Clone, Copy, Drop)]
@@ -13,6 +14,7 @@ pub enum UndergoFault {
 }
 
 impl UndergoFault {
+    // A method, since `u8::from` would not say that it is the number of a refusal.
     pub fn number(self) -> u8
         ensures { result ≡ undergo_number self }
     {
@@ -23,7 +25,7 @@ impl UndergoFault {
         }
     }
 
-    // The procedure or the instruction that it names; 0 where it names none.
+    // The procedure or the instruction that it names; 0 where it names none, since a refusal is written as two numbers.
     pub fn place(self) -> usize
         ensures { result ≡ undergo_place self }
     {
@@ -39,5 +41,13 @@ impl From<TableFault> for UndergoFault {
 
     fn from(value: TableFault) -> UndergoFault {
         UndergoFault::Table(value)
+    }
+}
+
+impl From<Refused<'_>> for UndergoFault {
+    ghost from_gives = { λ _ y. y ≡ StoreLength };
+
+    fn from(_refused: Refused<'_>) -> Self {
+        Self::StoreLength
     }
 }

@@ -5,6 +5,7 @@ use crate::answer::{Finish, LookFault, Report, Went};
 use crate::clear::clear;
 use admit::Passed;
 use host::host::Host;
+use machine::machine::Machine;
 use machine::registers::Registers;
 use sheet::place::{CodePlace, StorePlace};
 use steps::go::go_on;
@@ -26,6 +27,7 @@ pub struct Refused<'a> {
 }
 
 impl<'a> Refused<'a> {
+    // A method, since `u8::from` would not say that it is the number of a refusal.
     pub fn number(&self) -> u8
         ensures { result ≡ refusal_number self.now }
     {
@@ -39,7 +41,7 @@ pub fn begin<'a, S: Store>(passed: Passed<'a>, store: &mut S) -> Result<Run<'a>,
     ensures after { S.cells store.new ≡ begin_cells (S.cells store.old) }
 {
     let n = store.len();
-    if n < 5 || n > 65536 {
+    if !(5..=65536).contains(&n) {
         return Err(Refused { passed });
     }
     clear(store, n as u32);
@@ -53,26 +55,15 @@ pub fn begin<'a, S: Store>(passed: Passed<'a>, store: &mut S) -> Result<Run<'a>,
     Ok(Run { passed, regs })
 }
 
-fn is_fit<S: Store>(store: &S, last: u16) -> bool
-    ensures { result ≡ fits last (S.cells store.now) }
+// As `reached` of the instructions, whose refusal is another.
+fn cell_at<S: Store>(store: &S, height: u32, place: StorePlace) -> Result<Cell, LookFault>
+    ensures { result ≡ look_at place.0 height (S.cells store.now) }
 {
-    store.len() == last as usize + 1
-}
-
-fn cell_at<S: Store>(store: &S, height: u32, place: i32) -> Result<Cell, LookFault>
-    ensures { result ≡ look_at place height (S.cells store.now) }
-{
-    if place < 0 {
-        return Err(LookFault::NotReached);
-    }
-    let x = place as u32;
-    if x >= height {
-        return Err(LookFault::NotReached);
-    }
-    match store.read(Slot(x)) {
-        Ok(cell) => Ok(cell),
-        Err(_) => Err(LookFault::NotReached),
-    }
+    u32::try_from(place.0)
+        .ok()
+        .filter(|x| *x < height)
+        .and_then(|x| store.read(Slot(x)).ok())
+        .ok_or(LookFault::NotReached)
 }
 
 fn stack_place(height: u32) -> StorePlace
@@ -82,22 +73,33 @@ fn stack_place(height: u32) -> StorePlace
 }
 
 impl<'a> Run<'a> {
+    // Whether the store is as long as the one that the run began over.
+    fn fits<S: Store>(&self, store: &S) -> bool
+        ensures { result ≡ fits self.now.regs.last (S.cells store.now) }
+    {
+        store.len() == usize::from(self.regs.last) + 1
+    }
+
     // Steps until n are done, or until something ends the run sooner.
     pub fn go<S: Store, H: Host>(&mut self, store: &mut S, host: &mut H, n: u32) -> Went
         ensures value { ◌≡◌ {A = Gone} (record { answer = result; run = self.new; cells = S.cells store.new; host = H.means host.new }) (gone n self.old (S.cells store.old) (H.means host.old)) }
         ensures kept { (length (S.cells store.new) ≡ length (S.cells store.old)) × (self.new.regs.last ≡ self.old.regs.last) }
     {
-        if !is_fit(store, self.regs.last) {
+        if !self.fits(store) {
             return Went {
                 count: 0,
                 finish: Finish::OtherStore,
             };
         }
-        let table = self.passed.table();
-        let gone = go_on(table, n, &mut self.regs, store, host);
+        let mut machine = Machine {
+            regs: self.regs,
+            store,
+        };
+        let gone = go_on(&mut machine, self.passed.table(), n, host);
+        self.regs = machine.regs;
         Went {
             count: gone.count,
-            finish: Finish::of(gone.ending),
+            finish: Finish::from(gone.ending),
         }
     }
 
@@ -105,10 +107,10 @@ impl<'a> Run<'a> {
     pub fn look<S: Store>(&self, store: &S, place: StorePlace) -> Result<Cell, LookFault>
         ensures { result ≡ looked place self.now (S.cells store.now) }
     {
-        if !is_fit(store, self.regs.last) {
+        if !self.fits(store) {
             return Err(LookFault::OtherStore);
         }
-        cell_at(store, self.regs.height, place.0)
+        cell_at(store, self.regs.height, place)
     }
 
     pub fn report(&self) -> Report

@@ -6,26 +6,16 @@ ghost use Rattle.soundness.specs.Frames.{OpenFramesLeadToPlace0};
 ghost use Rattle.soundness.specs.Runs.{AdmittedRunsStayTyped, EqualTotalsLeaveEqualStates};
 ghost use Rattle.soundness.specs.SmallTables.{SmallTablesComeOut};
 ghost use Rattle.run.specs.Promise.{KeptOf, EqualCountsLeaveEqualStates};
-ghost use Rattle.run.specs.Undergone.{found, One, one, told, state_after, Undergone, undergone};
+ghost use Rattle.run.specs.Undergone.{One, one, told, state_after, Undergone, undergone};
 
-use crate::answer::{Answer, Call, LookFault};
+use crate::answer::{Answer, Call};
 use crate::fault::UndergoFault;
 use crate::run::{Run, begin};
 use admit::admit;
 use host::host::Host;
 use rows::row::Row;
 use sheet::table::Table;
-use store::cell::Cell;
 use store::store::Store;
-
-fn found(cell: Result<Cell, LookFault>) -> Answer
-    ensures { result ≡ found cell }
-{
-    match cell {
-        Ok(cell) => Answer::Found(cell),
-        Err(fault) => Answer::Refused(fault),
-    }
-}
 
 fn make<S: Store, H: Host>(run: &mut Run<'_>, store: &mut S, host: &mut H, call: Call) -> Answer
     requires fits { length (S.cells store.old) ≡ run.old.regs.last + 1 }
@@ -35,7 +25,7 @@ fn make<S: Store, H: Host>(run: &mut Run<'_>, store: &mut S, host: &mut H, call:
 {
     match call {
         Call::Go(n) => Answer::Went(run.go(store, host, n)),
-        Call::Look(place) => found(run.look(store, place)),
+        Call::Look(place) => Answer::from(run.look(store, place)),
         Call::Report => Answer::Registers(run.report()),
     }
 }
@@ -53,6 +43,7 @@ fn make_all<S: Store, H: Host>(
     ensures after { at run.new.regs (S.cells store.new) (H.means host.new) ≡ state_after (contents_of run.old.passed.table) calls.now (at run.old.regs (S.cells store.old) (H.means host.old)) }
     ensures same { run.new.passed ≡ run.old.passed }
 {
+    // by index, since a zip with `iter_mut` does not tell what the answers end as
     for (i, call) in calls.iter().enumerate() {
         answers[i] = make(run, store, host, *call);
     }
@@ -80,10 +71,7 @@ pub fn undergo<'a, S: Store, H: Host>(
     if answers.len() < calls.len() {
         return Err(UndergoFault::TooFewAnswers);
     }
-    let mut run = match begin(passed, store) {
-        Ok(begun) => begun,
-        Err(_) => return Err(UndergoFault::StoreLength),
-    };
+    let mut run = begin(passed, store)?;
     make_all(&mut run, store, host, calls, answers);
     Ok(run)
 }

@@ -1,9 +1,10 @@
 -- Kinds and values, cited by whatever looks at one. Assumes nothing.
 --   letter_of: the byte that stands for a kind in text
+--   word_of: the word for a kind in a listing
 --   kind_of: the kind of a value
 --   is_value: whether a record is a value: a real is finite
 --   same: whether two kinds are one
-use Rattle.std.specs.Prelude.{ℕ, Bool, true, ◌==◌}
+use Rattle.std.specs.Prelude.{ℕ, Bool, true, List, codes, ◌==◌}
 use Rattle.std.specs.Float.{float_is_finite}
 use Rattle.sheet.specs.declared.kind.Kind.{Kind}
 use Rattle.sheet.specs.declared.kind.Kind.TheVariants as k
@@ -17,6 +18,13 @@ letter_of k.Boolean = 98
 letter_of k.Character = 99
 letter_of k.Integer = 105
 letter_of k.Real = 114
+
+abbrev pub word_of : Kind → List ℕ
+word_of k.Address = codes "address"
+word_of k.Boolean = codes "boolean"
+word_of k.Character = codes "character"
+word_of k.Integer = codes "integer"
+word_of k.Real = codes "real"
 
 abbrev pub kind_of : Value → Kind
 kind_of (v.Address x) = k.Address

@@ -3,7 +3,8 @@
 --   name_of: its four columns
 --   shape_of: letters, whether p and q are used, and what they must name
 --   named: the mnemonic that a name of four columns stands for
-use Rattle.std.specs.Prelude.{◌≡◌, ℕ, true, false, cond, List, [], ◌∷◌, Some, None, codes, Option}
+use Rattle.std.specs.Prelude.{◌≡◌, ℕ, true, false, List, [], ◌∷◌, Some, codes, Option}
+use Rattle.std.specs.List.{find}
 use Rattle.std.specs.Str.{bytes_eq}
 use Rattle.sheet.specs.declared.mnemonic.Mnemonic.{Mnemonic}
 use Rattle.sheet.specs.declared.mnemonic.Mnemonic.TheVariants.{Add, Sub, Mul, Div, Neg, And, Or, Not, Equ, Neq, Les, Leq, Grt, Geq, Ldc, Ldo, Sro, Lod, Str, Lda, Ind, Sto, Dpl, Ixa, Inc, Dec, Chk, Ujp, Fjp, In, Out, Conv, Mst, Cup, Ent, Retf, Retp, Hlt}
@@ -110,13 +111,9 @@ name_of Retf = codes "retf"
 name_of Retp = codes "retp"
 name_of Hlt = codes "hlt "
 
--- the first of the list that has this name
-abbrev pub find : List Mnemonic → List ℕ → Option Mnemonic
-find [] s = None
-find (m ∷ ms) s = cond (bytes_eq s (name_of m)) (Some m) (find ms s)
-
+-- the first that has this name
 abbrev pub named : List ℕ → Option Mnemonic
-named s = find mnemonics s
+named s = find (λ m. bytes_eq (name_of m) s) mnemonics
 
 -- no two mnemonics share a name: each is found by its own
 abbrev pub NamesAreApart : Type 0

@@ -1,5 +1,7 @@
-ghost use Rattle.std.specs.Prelude.{◌≡◌};
-ghost use Rattle.sheet.specs.Kinds.{letter_of};
+ghost use Rattle.std.specs.Prelude.{◌≡◌, Some};
+ghost use Rattle.sheet.specs.Kinds.{letter_of, word_of};
+
+use std::fmt;
 
 // The five kinds of values.
 #[derive(Clone, Copy, PartialEq, Eq, Debug, Drop)]
@@ -12,7 +14,7 @@ pub enum Kind {
 }
 
 impl Kind {
-    // The letter that stands for it in text.
+    // The letter that stands for it in text: `u8::from(kind)` would not say that it is a letter.
     pub fn letter(self) -> u8
         ensures { result ≡ letter_of self }
     {
@@ -23,5 +25,19 @@ impl Kind {
             Kind::Integer => b'i',
             Kind::Real => b'r',
         }
+    }
+}
+
+impl fmt::Display for Kind {
+    ghost output = { λ kind. Some (word_of kind) };
+
+    fn fmt<W: fmt::Write>(&self, f: &mut fmt::Formatter<W>) -> fmt::Result {
+        f.pad(match self {
+            Kind::Address => "address",
+            Kind::Boolean => "boolean",
+            Kind::Character => "character",
+            Kind::Integer => "integer",
+            Kind::Real => "real",
+        })
     }
 }

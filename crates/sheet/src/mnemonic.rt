@@ -1,5 +1,5 @@
 // The 38 mnemonics. Stacks are shown with the top at the right; N is i or r, T and T2 the letters of the instruction.
-#[derive(Clone, Copy, Drop)]
+#[derive(Clone, Copy, PartialEq, Eq, Debug, Drop)]
 pub enum Mnemonic {
     Add, // (N, N) -> (N): the sum
     Sub, // (N, N) -> (N): the difference

@@ -2,21 +2,21 @@
 use crate::kind::Kind;
 
 // The kinds of arithmetic.
-#[derive(Clone, Copy, Drop)]
+#[derive(Clone, Copy, PartialEq, Eq, Debug, Drop)]
 pub enum Numeric {
     Integer,
     Real,
 }
 
 // The kinds that inc and dec step.
-#[derive(Clone, Copy, Drop)]
+#[derive(Clone, Copy, PartialEq, Eq, Debug, Drop)]
 pub enum Ordinal {
     Address,
     Character,
     Integer,
 }
 
-#[derive(Clone, Copy, Drop)]
+#[derive(Clone, Copy, PartialEq, Eq, Debug, Drop)]
 pub enum Arithmetic {
     Add,
     Sub,
@@ -25,7 +25,7 @@ pub enum Arithmetic {
 }
 
 // How the lower cell of the stack stands to the top.
-#[derive(Clone, Copy, Drop)]
+#[derive(Clone, Copy, PartialEq, Eq, Debug, Drop)]
 pub enum Relation {
     Equal,
     Unequal,
@@ -35,7 +35,7 @@ pub enum Relation {
     GreaterOrEqual,
 }
 
-#[derive(Clone, Copy, Drop)]
+#[derive(Clone, Copy, PartialEq, Eq, Debug, Drop)]
 pub enum Conversion {
     IntegerToReal,
     RealToInteger,
@@ -44,7 +44,7 @@ pub enum Conversion {
 }
 
 // Two values taken, one given.
-#[derive(Clone, Copy, Drop)]
+#[derive(Clone, Copy, PartialEq, Eq, Debug, Drop)]
 pub enum Binary {
     Arithmetic(Arithmetic, Numeric), // (N, N) -> (N)
     And, // (b, b) -> (b)
@@ -54,7 +54,7 @@ pub enum Binary {
 }
 
 // One value taken, one given.
-#[derive(Clone, Copy, Drop)]
+#[derive(Clone, Copy, PartialEq, Eq, Debug, Drop)]
 pub enum Unary {
     Negate(Numeric), // (N) -> (N)
     Not, // (b) -> (b)

@@ -17,10 +17,20 @@ pub struct Procedure {
 }
 
 impl Procedure {
+    // What stands where there is no procedure.
+    pub const NONE: Procedure = Procedure {
+        parent: 0,
+        first: 0,
+        parameters: 0,
+        result: None,
+        offset: 0,
+        count: 0,
+    };
+
     // Where a call of it goes on.
     pub fn entry(self) -> CodePlace
         ensures { result ≡ entry_of self }
     {
-        CodePlace(self.first as i32)
+        CodePlace(i32::from(self.first))
     }
 }

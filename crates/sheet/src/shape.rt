@@ -1,11 +1,12 @@
 // The operand shape of each mnemonic: which letters it takes, whether it uses p and q, and what they must name.
-ghost use Rattle.std.specs.Prelude.{◌≡◌, map};
-ghost use Rattle.sheet.specs.Shapes.{mnemonics, shape_of, name_of, named, find, NamesAreApart};
+ghost use Rattle.std.specs.Prelude.{◌≡◌, bytes_eq, map};
+ghost use Rattle.std.specs.List.{find};
+ghost use Rattle.sheet.specs.Shapes.{shape_of, name_of, named, NamesAreApart};
 
 use crate::mnemonic::Mnemonic;
 
 // The letters T and T2 that an instruction may have.
-#[derive(Clone, Copy, Drop)]
+#[derive(Clone, Copy, PartialEq, Eq, Debug, Drop)]
 pub enum Letters {
     Nothing, // neither is used
     Number, // T is i or r
@@ -16,7 +17,7 @@ pub enum Letters {
 }
 
 // What the operands must name.
-#[derive(Clone, Copy, Drop)]
+#[derive(Clone, Copy, PartialEq, Eq, Debug, Drop)]
 pub enum Rule {
     Free, // any number
     Constant, // q is a constant of kind T
@@ -31,7 +32,7 @@ pub enum Rule {
     Procedure, // only in a procedure other than 0 without one
 }
 
-#[derive(Clone, Copy, Drop)]
+#[derive(Clone, Copy, PartialEq, Eq, Debug, Drop)]
 pub struct Shape {
     pub letters: Letters,
     pub p: bool,
@@ -165,141 +166,80 @@ const PROCEDURE: Shape = Shape {
     rule: Rule::Procedure,
 };
 
+// A mnemonic, its name padded with blanks at the right, and its operand shape.
+#[derive(Clone, Copy, Drop)]
+struct Entry(Mnemonic, [u8; 4], Shape);
+
 // By the number of the mnemonic.
-const SHAPES: [Shape; 38] = [
-    NUMERIC, // add
-    NUMERIC, // sub
-    NUMERIC, // mul
-    NUMERIC, // div
-    NUMERIC, // neg
-    BARE, // and
-    BARE, // or
-    BARE, // not
-    TYPED, // equ
-    TYPED, // neq
-    TYPED, // les
-    TYPED, // leq
-    TYPED, // grt
-    TYPED, // geq
-    CONSTANT, // ldc
-    GLOBAL, // ldo
-    GLOBAL, // sro
-    LOCAL, // lod
-    LOCAL, // str
-    ADDRESS, // lda
-    TYPED, // ind
-    TYPED, // sto
-    TYPED, // dpl
-    SCALE, // ixa
-    STEP, // inc
-    STEP, // dec
-    BOUNDS, // chk
-    LABEL, // ujp
-    LABEL, // fjp
-    READ, // in
-    TYPED, // out
-    PAIR, // conv
-    LINK, // mst
-    CALL, // cup
-    ENTER, // ent
-    FUNCTION, // retf
-    PROCEDURE, // retp
-    BARE, // hlt
-];
-
-// The four columns of each name: the checker computes no row that holds an array, so names stand beside the shapes.
-const NAMES: [[u8; 4]; 38] = [
-    *b"add ", *b"sub ", *b"mul ", *b"div ", *b"neg ", *b"and ", *b"or  ", *b"not ", *b"equ ",
-    *b"neq ", *b"les ", *b"leq ", *b"grt ", *b"geq ", *b"ldc ", *b"ldo ", *b"sro ", *b"lod ",
-    *b"str ", *b"lda ", *b"ind ", *b"sto ", *b"dpl ", *b"ixa ", *b"inc ", *b"dec ", *b"chk ",
-    *b"ujp ", *b"fjp ", *b"in  ", *b"out ", *b"conv", *b"mst ", *b"cup ", *b"ent ", *b"retf",
-    *b"retp", *b"hlt ",
-];
-
-const MNEMONICS: [Mnemonic; 38] = [
-    Mnemonic::Add,
-    Mnemonic::Sub,
-    Mnemonic::Mul,
-    Mnemonic::Div,
-    Mnemonic::Neg,
-    Mnemonic::And,
-    Mnemonic::Or,
-    Mnemonic::Not,
-    Mnemonic::Equ,
-    Mnemonic::Neq,
-    Mnemonic::Les,
-    Mnemonic::Leq,
-    Mnemonic::Grt,
-    Mnemonic::Geq,
-    Mnemonic::Ldc,
-    Mnemonic::Ldo,
-    Mnemonic::Sro,
-    Mnemonic::Lod,
-    Mnemonic::Str,
-    Mnemonic::Lda,
-    Mnemonic::Ind,
-    Mnemonic::Sto,
-    Mnemonic::Dpl,
-    Mnemonic::Ixa,
-    Mnemonic::Inc,
-    Mnemonic::Dec,
-    Mnemonic::Chk,
-    Mnemonic::Ujp,
-    Mnemonic::Fjp,
-    Mnemonic::In,
-    Mnemonic::Out,
-    Mnemonic::Conv,
-    Mnemonic::Mst,
-    Mnemonic::Cup,
-    Mnemonic::Ent,
-    Mnemonic::Retf,
-    Mnemonic::Retp,
-    Mnemonic::Hlt,
+const TABLE: [Entry; 38] = [
+    Entry(Mnemonic::Add, *b"add ", NUMERIC),
+    Entry(Mnemonic::Sub, *b"sub ", NUMERIC),
+    Entry(Mnemonic::Mul, *b"mul ", NUMERIC),
+    Entry(Mnemonic::Div, *b"div ", NUMERIC),
+    Entry(Mnemonic::Neg, *b"neg ", NUMERIC),
+    Entry(Mnemonic::And, *b"and ", BARE),
+    Entry(Mnemonic::Or, *b"or  ", BARE),
+    Entry(Mnemonic::Not, *b"not ", BARE),
+    Entry(Mnemonic::Equ, *b"equ ", TYPED),
+    Entry(Mnemonic::Neq, *b"neq ", TYPED),
+    Entry(Mnemonic::Les, *b"les ", TYPED),
+    Entry(Mnemonic::Leq, *b"leq ", TYPED),
+    Entry(Mnemonic::Grt, *b"grt ", TYPED),
+    Entry(Mnemonic::Geq, *b"geq ", TYPED),
+    Entry(Mnemonic::Ldc, *b"ldc ", CONSTANT),
+    Entry(Mnemonic::Ldo, *b"ldo ", GLOBAL),
+    Entry(Mnemonic::Sro, *b"sro ", GLOBAL),
+    Entry(Mnemonic::Lod, *b"lod ", LOCAL),
+    Entry(Mnemonic::Str, *b"str ", LOCAL),
+    Entry(Mnemonic::Lda, *b"lda ", ADDRESS),
+    Entry(Mnemonic::Ind, *b"ind ", TYPED),
+    Entry(Mnemonic::Sto, *b"sto ", TYPED),
+    Entry(Mnemonic::Dpl, *b"dpl ", TYPED),
+    Entry(Mnemonic::Ixa, *b"ixa ", SCALE),
+    Entry(Mnemonic::Inc, *b"inc ", STEP),
+    Entry(Mnemonic::Dec, *b"dec ", STEP),
+    Entry(Mnemonic::Chk, *b"chk ", BOUNDS),
+    Entry(Mnemonic::Ujp, *b"ujp ", LABEL),
+    Entry(Mnemonic::Fjp, *b"fjp ", LABEL),
+    Entry(Mnemonic::In, *b"in  ", READ),
+    Entry(Mnemonic::Out, *b"out ", TYPED),
+    Entry(Mnemonic::Conv, *b"conv", PAIR),
+    Entry(Mnemonic::Mst, *b"mst ", LINK),
+    Entry(Mnemonic::Cup, *b"cup ", CALL),
+    Entry(Mnemonic::Ent, *b"ent ", ENTER),
+    Entry(Mnemonic::Retf, *b"retf", FUNCTION),
+    Entry(Mnemonic::Retp, *b"retp", PROCEDURE),
+    Entry(Mnemonic::Hlt, *b"hlt ", BARE),
 ];
 
 impl Mnemonic {
     pub fn shape(self) -> Shape
         ensures { result ≡ shape_of self }
     {
-        SHAPES[self as usize]
+        TABLE[self as usize].2
     }
 
     // Its name, padded with blanks at the right.
     pub fn name(self) -> [u8; 4]
         ensures { result ≡ name_of self }
     {
-        NAMES[self as usize]
+        TABLE[self as usize].1
     }
 
     // The mnemonic with this name.
     pub fn by_name(name: [u8; 4]) -> Option<Mnemonic>
-        ensures { result ≡ named name }
+        ensures found { result ≡ named name }
+        ensures apart { NamesAreApart }
     {
-        find_in(&MNEMONICS, name)
+        find_in(&TABLE, name)
     }
 }
 
-fn find_in(mnemonics: &[Mnemonic], text: [u8; 4]) -> Option<Mnemonic>
-    ensures { result ≡ find mnemonics.now text }
+fn find_in(table: &[Entry], name: [u8; 4]) -> Option<Mnemonic>
+    ensures { result ≡ find (λ m. bytes_eq (name_of m) name) (map (λ e. e.0) table.now) }
 {
-    for m in mnemonics {
-        if text == m.name() {
-            return Some(*m);
-        }
-    }
-    None
-}
-
-// The whole table, in the order of the mnemonics.
-pub fn shapes() -> [Shape; 38]
-    ensures { result ≡ map shape_of mnemonics }
-{
-    SHAPES
-}
-
-// Each mnemonic is found by its own name, and by no other.
-pub fn names_stand() -> u8
-    ensures { NamesAreApart }
-{
-    0
+    table
+        .iter()
+        .map(|entry| entry.0)
+        .find(|mnemonic| mnemonic.name() == name)
 }

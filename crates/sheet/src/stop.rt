@@ -21,6 +21,7 @@ pub enum Stop {
 }
 
 impl Stop {
+    // A method: `u8::from(stop)` would not say what the byte is.
     pub fn number(self) -> u8
         ensures { result ≡ stop_number self }
     {

@@ -25,7 +25,7 @@ use Rattle.sheet.specs.declared.operation.Unary.TheVariants as b1
 use Rattle.sheet.specs.declared.place.StorePlace.{StorePlace}
 use Rattle.arith.specs.Integers.{integer_fits, integer_of, integer_arithmetic, integer_checked, character_of}
 use Rattle.arith.specs.Operations.{to_address, to_character, to_integer, to_real, increment, decrement, binary_result, unary_result}
-use Rattle.arith.specs.Payloads.{address_in, boolean_in, character_in, integer_in, real_in}
+use Rattle.sheet.specs.Payloads.{address_in, boolean_in, character_in, integer_in, real_in}
 use Rattle.arith.specs.Quotients.{between, is_zero}
 use Rattle.arith.specs.Reals.{real_of, is_real_zero, real_arithmetic, of_integer, truncated, whole_part}
 use Rattle.arith.specs.Relations.{relation}

@@ -7,24 +7,18 @@ ghost use Rattle.soundness.specs.Runs.{AdmittedRunsStayTyped, CallsLeaveWhatOneG
 
 // No answer is 60 to 63, and before and after each call every open frame holds its row and its declaration: there is one at MP,
 // and from each the callers lead down to place 0.
-fn promise_stands() -> u8
+fn promise_stands()
     ensures typed { AdmittedRunsStayTyped }
     ensures frames { OpenFramesLeadToPlace0 }
-{
-    0
-}
+{}
 
 // What a list of calls leaves depends on the steps that it made alone.
-fn totals_stand() -> u8
+fn totals_stand()
     ensures one_go { CallsLeaveWhatOneGoLeaves }
     ensures law { EqualTotalsLeaveEqualStates }
-{
-    0
-}
+{}
 
 // The small tables come out as they should: rows, counts, registers, values and refusals.
-fn small_tables_stand() -> u8
+fn small_tables_stand()
     ensures { SmallTablesComeOut }
-{
-    0
-}
+{}

@@ -11,7 +11,7 @@ use Rattle.sheet.specs.declared.value.Value.TheVariants.{Address}
 use Rattle.sheet.specs.Tables.{Contents}
 use Rattle.arith.specs.Answers.{Answer, demand, ◌>>=◌, ◌>>◌}
 use Rattle.arith.specs.Operations.{binary_result, unary_result}
-use Rattle.arith.specs.Payloads.{address_in, boolean_in}
+use Rattle.sheet.specs.Payloads.{address_in, boolean_in}
 use Rattle.rules.specs.Lookups.{natural, owner, procedure_at}
 use Rattle.store.specs.declared.cell.Cell.{Cell}
 use Rattle.store.specs.declared.cell.Cell.TheVariants.{Mark, Working, Data, Blank}

@@ -1,12 +1,17 @@
 -- What an instruction answers and leaves, as what a step does.
-use Rattle.std.proofs.Common.{◌≡◌, ℕ, ◌+◌, Ok, Err, Result, sym, refl, ap, ◌∙◌}
+use Rattle.std.proofs.Common.{◌≡◌, ℕ, ◌+◌, List, Ok, Err, Result, sym, refl, ap, ◌∙◌}
 use Rattle.sheet.specs.declared.place.CodePlace.{CodePlace}
 use Rattle.sheet.specs.declared.stop.Stop.{Stop}
 use Rattle.sheet.specs.Tables.{Contents}
 use Rattle.arith.specs.Answers.{Answer}
+use Rattle.store.specs.declared.cell.Cell.{Cell}
+use Rattle.host.specs.Hosts.{Meaning}
 use Rattle.machine.specs.declared.ending.Ending.{Ending}
+use Rattle.machine.specs.declared.ending.Ending.TheVariants.{Stopped}
+use Rattle.machine.specs.declared.machine.Machine.{Machine}
 use Rattle.machine.specs.declared.operation.Operation.{Operation}
 use Rattle.machine.specs.Endings.{stopping}
+use Rattle.machine.specs.Machine.{CarriesOut, CarriesOutWith, state_of}
 use Rattle.machine.specs.States.{State, Outcome, code_at, ended, gives}
 use Rattle.machine.specs.Steps.{perform}
 
@@ -18,7 +23,7 @@ ended_step s (Ok t) = refl
 ended_step s (Err w) = refl
 
 -- operation i is j, which is carried out as f
-pub carried : (T : Contents) (n : ℕ) (s : State) {i j : Operation} {next : CodePlace} {t : State} {b : Answer (Unit {0})} {r : Result (Unit {0}) Ending}
+carried : (T : Contents) (n : ℕ) (s : State) {i j : Operation} {next : CodePlace} {t : State} {b : Answer (Unit {0})} {r : Result (Unit {0}) Ending}
     → i ≡ j → next ≡ code_at (n + 1) → (f : CodePlace → State → Answer State) → perform T n j s ≡ stopping (f (code_at (n + 1)) s)
     → r ≡ stopping b → gives b t ≡ ended s (f next s) → gives r t ≡ ended s (perform T n i s)
 carried T n s {i = i} {j = j} {next = next} {t = t} is at_next f performed answered left =
@@ -28,3 +33,22 @@ carried T n s {i = i} {j = j} {next = next} {t = t} is at_next f performed answe
     ∙ (ap (λ (x : CodePlace). ended s (stopping (f x s))) at_next
     ∙ (ap (λ (x : Result State Ending). ended s x) (sym performed)
     ∙ ap (λ (x : Operation). ended s (perform T n x s)) (sym is)))))
+
+module _ {S : Type 0} (cells : S → List Cell) (T : Contents) (n : ℕ) where
+  pub carried_out : (h : Meaning) {before after : Machine S} {i j : Operation} {next : CodePlace} {b : Answer (Unit {0})} {r : Result (Unit {0}) Ending}
+      → i ≡ j → next ≡ code_at (n + 1) → (f : CodePlace → State → Answer State) → ((s : State) → perform T n j s ≡ stopping (f (code_at (n + 1)) s))
+      → r ≡ stopping b → CarriesOut cells b before after (f next) → CarriesOutWith cells r before h after h (perform T n i)
+  carried_out h {before = before} is at_next f performed answered d =
+      record { store = d.store; state = carried T n (state_of cells before h) is at_next f (performed (state_of cells before h)) answered (d.state h) }
+
+  pub carried_out_with : {h k : Meaning} {before after : Machine S} {i j : Operation} {next : CodePlace} {b : Answer (Unit {0})} {r : Result (Unit {0}) Ending}
+      → i ≡ j → next ≡ code_at (n + 1) → (f : CodePlace → State → Answer State) → ((s : State) → perform T n j s ≡ stopping (f (code_at (n + 1)) s))
+      → r ≡ stopping b → CarriesOutWith cells b before h after k (f next) → CarriesOutWith cells r before h after k (perform T n i)
+  carried_out_with {h = h} {before = before} is at_next f performed answered d =
+      record { store = d.store; state = carried T n (state_of cells before h) is at_next f (performed (state_of cells before h)) answered d.state }
+
+pub stopped : {b : Answer (Unit {0})} {r : Result (Unit {0}) Ending} {y : Ending} {w : Stop} → r ≡ Err y → y ≡ Stopped w → b ≡ Err w → r ≡ stopping b
+stopped p q e = p ∙ (ap Err q ∙ sym (ap stopping e))
+
+pub went_on : {b : Answer (Unit {0})} {u : Unit {0}} → b ≡ Ok u → Ok u ≡ stopping b
+went_on e = sym (ap stopping e)

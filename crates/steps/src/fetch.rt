@@ -6,7 +6,6 @@ ghost use Rattle.steps.specs.Places.{number};
 
 use machine::decode::decode;
 use machine::operation::Operation;
-use sheet::instruction::Instruction;
 use sheet::place::CodePlace;
 use sheet::table::Table;
 
@@ -14,28 +13,11 @@ use sheet::table::Table;
 pub(crate) fn number(place: CodePlace) -> Option<u16>
     ensures { result ≡ number place.0 }
 {
-    if place.0 < 0 {
-        return None;
-    }
-    let n = place.0 as u32;
-    if n < 4096 { Some(n as u16) } else { None }
-}
-
-fn instruction_at(table: Table<'_>, n: usize) -> Option<Instruction>
-    ensures { result ≡ slice_get table.entry.code.now n }
-{
-    if n < table.code.len() {
-        Some(table.code[n])
-    } else {
-        None
-    }
+    u16::try_from(place.0).ok().filter(|n| *n < 4096)
 }
 
 pub(crate) fn operation_at(table: Table<'_>, n: u16) -> Option<Operation>
     ensures { result ≡ decoded (slice_get table.entry.code.now n) }
 {
-    match instruction_at(table, n as usize) {
-        None => None,
-        Some(instruction) => decode(instruction),
-    }
+    table.code.get(usize::from(n)).and_then(|x| decode(*x))
 }

@@ -1,14 +1,13 @@
 // Many steps.
 ghost use Rattle.std.specs.Prelude.{◌≡◌, length};
 ghost use Rattle.rules.specs.Lookups.{contents_of};
+ghost use Rattle.machine.specs.Machine.{state_of};
 ghost use Rattle.machine.specs.Runs.{Went, go};
-ghost use Rattle.machine.specs.States.{at};
-ghost use Rattle.steps.specs.Counts.{whole, sooner};
 
 use crate::step::step;
 use host::host::Host;
 use machine::ending::Ending;
-use machine::registers::Registers;
+use machine::machine::Machine;
 use sheet::table::Table;
 use store::store::Store;
 
@@ -19,44 +18,28 @@ pub struct Gone {
     pub ending: Option<Ending>,
 }
 
-impl Gone {
-    // All were made.
-    fn whole(all: u32) -> Gone
-        ensures { result ≡ whole all }
-    {
-        Gone {
-            count: all,
-            ending: None,
-        }
-    }
-
-    // So many were made, and then this ended them.
-    fn sooner(made: u32, ending: Ending) -> Gone
-        ensures { result ≡ sooner made ending }
-    {
-        Gone {
-            count: made,
-            ending: Some(ending),
-        }
-    }
-}
-
 // n steps, or as many as there are.
 pub fn go_on<S: Store, H: Host>(
+    machine: &mut Machine<'_, S>,
     table: Table<'_>,
     n: u32,
-    regs: &mut Registers,
-    store: &mut S,
     host: &mut H,
 ) -> Gone
-    ensures value { ◌≡◌ {A = Went} (record { state = at regs.new (S.cells store.new) (H.means host.new); count = result.count; ending = result.ending }) (go (contents_of table.entry) n (at regs.old (S.cells store.old) (H.means host.old))) }
-    ensures long { length (S.cells store.new) ≡ length (S.cells store.old) }
-    ensures last { regs.new.last ≡ regs.old.last }
+    ensures store { machine.new.store.ghost_name ≡ machine.old.store.ghost_name }
+    ensures value { ◌≡◌ {A = Went} (record { state = state_of S.cells machine.new (H.means host.new); count = result.count; ending = result.ending }) (go (contents_of table.entry) n (state_of S.cells machine.old (H.means host.old))) }
+    ensures long { length (S.cells machine.new.store.now) ≡ length (S.cells machine.old.store.now) }
+    ensures last { machine.new.regs.last ≡ machine.old.regs.last }
 {
     for i in 0..n {
-        if let Err(ending) = step(table, regs, store, host) {
-            return Gone::sooner(i, ending);
+        if let Err(ending) = step(machine, table, host) {
+            return Gone {
+                count: i,
+                ending: Some(ending),
+            };
         }
     }
-    Gone::whole(n)
+    Gone {
+        count: n,
+        ending: None,
+    }
 }

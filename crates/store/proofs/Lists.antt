@@ -1,17 +1,15 @@
 -- Lists of cells, read and written at one place.
-use Rattle.std.proofs.Common.{◌≡◌, ℕ, zero, suc, ◌<◌, Bool, true, false, cond, List, [], ◌∷◌, map, length, get_or, set, Some, refl, ap, ◌∙◌, arith}
+use Rattle.std.proofs.Common.{◌≡◌, ℕ, zero, suc, ◌<◌, Bool, true, false, cond, List, [], ◌∷◌, length, set, Some, refl, ap, ◌∙◌, arith}
 use Rattle.std.specs.List.{slice_get}
-use Rattle.std.proofs.lemmas.List.{length-set}
+use Rattle.std.proofs.lemmas.List.{length-map, length-set, map-set, set_past}
 use Rattle.sheet.specs.Kinds.{is_value}
 use Rattle.store.specs.declared.cell.Cell.{Cell}
 use Rattle.store.specs.declared.cell.Cell.TheVariants.{Free, Mark, Working, Data, Blank}
 use Rattle.store.specs.Cells.{clean, all_cells, or_past}
 use Rattle.store.specs.Laws.{AWriteReplacesOneCell}
 
-pub nth_map : {X Y : Type 0} (f : X → Y) (xs : List X) (i : ℕ) (d : X) → i < length xs → slice_get (map f xs) i ≡ Some (f (get_or xs i d))
-nth_map f [] i d h = absurd (omega arith)
-nth_map f (x ∷ xs) zero d h = refl
-nth_map f (x ∷ xs) (suc i) d h = nth_map f xs i d (omega arith)
+-- what a write to a list of records does to the cells that it means
+pub ruleset writes = (length-map, map-set, set_past)
 
 kept_or_free : (b : Bool) (c : Cell) → clean c ≡ cond b c Free → clean (cond b c Free) ≡ cond b c Free
 kept_or_free true c e = e

@@ -7,6 +7,7 @@ use sheet::kind::Kind;
 use sheet::place::StorePlace;
 use sheet::value::Value;
 
+// Not TryFrom: these numbers belong to the packed store alone.
 fn kind_in(n: u8) -> Option<Kind>
     ensures { result ≡ kind_at n }
 {
@@ -23,11 +24,8 @@ fn kind_in(n: u8) -> Option<Kind>
 fn number_in(w: u64) -> Option<i32>
     ensures { result ≡ number_at w }
 {
-    if w < 0x1_0000_0000 {
-        Some((w as i64 - 0x8000_0000) as i32)
-    } else {
-        None
-    }
+    let n = u32::try_from(w).ok()?;
+    Some((i64::from(n) - 0x8000_0000) as i32)
 }
 
 fn value_in(kind: Kind, w: u64) -> Option<Value>
@@ -40,13 +38,7 @@ fn value_in(kind: Kind, w: u64) -> Option<Value>
             1 => Some(Value::Boolean(true)),
             _ => None,
         },
-        Kind::Character => {
-            if w < 256 {
-                Some(Value::Character(w as u8))
-            } else {
-                None
-            }
-        }
+        Kind::Character => Some(Value::Character(u8::try_from(w).ok()?)),
         Kind::Integer => Some(Value::Integer(number_in(w)?)),
         Kind::Real => Some(Value::Real(std::num::f64_from_bits_with_nan(w))),
     }
@@ -68,8 +60,7 @@ fn shaped_in(shape: u8, kind: Option<Kind>, w: u64) -> Option<Cell>
 pub(crate) fn decode(code: u8, w: u64) -> Cell
     ensures { result ≡ cell_at code w }
 {
-    match shaped_in(code % 8, kind_in(code / 8), w) {
-        Some(c) => c.cleaned(),
-        None => Cell::Free,
-    }
+    shaped_in(code % 8, kind_in(code / 8), w)
+        .unwrap_or(Cell::Free)
+        .cleaned()
 }

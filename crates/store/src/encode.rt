@@ -14,6 +14,7 @@ pub(crate) struct Pair {
     pub(crate) word: u64,
 }
 
+// Not From: these numbers belong to the packed store alone.
 fn kind_code(kind: Kind) -> u8
     ensures small { result < 5 }
     ensures back { kind_at result ≡ Some kind }
@@ -30,7 +31,7 @@ fn kind_code(kind: Kind) -> u8
 fn number_word(z: i32) -> u64
     ensures { number_at result ≡ Some z }
 {
-    (z as i64 + 0x8000_0000) as u64
+    (i64::from(z) + 0x8000_0000) as u64
 }
 
 fn value_word(x: Value) -> u64
@@ -38,8 +39,8 @@ fn value_word(x: Value) -> u64
 {
     match x {
         Value::Address(a) => number_word(a.0),
-        Value::Boolean(b) => b as u64,
-        Value::Character(n) => n as u64,
+        Value::Boolean(b) => u64::from(b),
+        Value::Character(n) => u64::from(n),
         Value::Integer(z) => number_word(z),
         Value::Real(f) => std::num::f64_to_bits_with_nan(f),
     }

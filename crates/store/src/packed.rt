@@ -1,4 +1,4 @@
-ghost use Rattle.std.specs.Prelude.{◌≡◌, min};
+ghost use Rattle.std.specs.Prelude.{◌≡◌};
 ghost use Rattle.store.specs.Cells.{found, put_answer, put};
 ghost use Rattle.store.specs.Meanings.{cells_of_packed};
 ghost use Rattle.store.specs.Packing.{packed_cells};
@@ -25,12 +25,7 @@ impl<'a> Packed<'a> {
     }
 }
 
-fn shorter(codes: usize, words: usize) -> usize
-    ensures { result ≡ min codes words }
-{
-    codes.min(words)
-}
-
+// By index: from what two calls of `get` answer the check found no proof that both lists hold the cell.
 fn fetch(codes: &[u8], words: &[u64], i: usize) -> Result<Cell, PastTheEnd>
     ensures { result ≡ found (packed_cells codes.now words.now) i }
 {
@@ -44,8 +39,9 @@ fn fetch(codes: &[u8], words: &[u64], i: usize) -> Result<Cell, PastTheEnd>
 impl Store for Packed<'_> {
     ghost cells = { cells_of_packed };
 
+    #[tactic(auto, using(crate::proofs::Packings::length_packed, crate::proofs::Packings::all_packed))]
     fn len(&self) -> usize {
-        shorter(self.codes.len(), self.words.len())
+        self.codes.len().min(self.words.len())
     }
 
     fn read(&self, x: Slot) -> Result<Cell, PastTheEnd> {
@@ -58,6 +54,7 @@ impl Store for Packed<'_> {
         ensures value { result ≡ put_answer (cells_of_packed self.old) x.0 }
         ensures after { cells_of_packed self.new ≡ put (cells_of_packed self.old) x.0 c }
     {
+        // By index, as in `fetch`.
         let i = x.0 as usize;
         if i < self.codes.len() && i < self.words.len() {
             let pair = encode(c);

@@ -1,5 +1,5 @@
 ghost use Rattle.std.specs.Prelude.{◌≡◌};
-ghost use Rattle.store.specs.Cells.{all_cells, found, put_answer, put};
+ghost use Rattle.store.specs.Cells.{all_cells, put_answer, put};
 ghost use Rattle.store.specs.Meanings.{cells_of_records};
 
 use crate::cell::Cell;
@@ -21,45 +21,34 @@ impl<'a> Records<'a> {
     }
 }
 
-fn fetch(records: &[Cell], i: usize) -> Result<Cell, PastTheEnd>
-    ensures { result ≡ found (all_cells records.now) i }
-{
-    if i < records.len() {
-        Ok(records[i].cleaned())
-    } else {
-        Err(PastTheEnd)
-    }
-}
-
-fn replace(records: &mut [Cell], i: usize, c: Cell) -> Result<(), PastTheEnd>
-    ensures value { result ≡ put_answer (all_cells records.old) i }
-    ensures after { all_cells records.new ≡ put (all_cells records.old) i c }
-{
-    if i < records.len() {
-        records[i] = c;
-        Ok(())
-    } else {
-        Err(PastTheEnd)
-    }
-}
-
 impl Store for Records<'_> {
     ghost cells = { cells_of_records };
 
+    #[tactic(auto, using(crate::proofs::Lists::all_cells_again))]
     fn len(&self) -> usize {
         self.records.len()
     }
 
     fn read(&self, x: Slot) -> Result<Cell, PastTheEnd> {
-        fetch(self.records, x.0 as usize)
+        self.records
+            .get(x.0 as usize)
+            .map(|cell| cell.cleaned())
+            .ok_or(PastTheEnd)
     }
 
     // Whoever lent the list knows what it then holds.
+    #[tactic(auto, using(crate::proofs::Lists::writes))]
     fn write(&mut self, x: Slot, c: Cell) -> Result<(), PastTheEnd>
         ensures name { self.new.records.ghost_name ≡ self.old.records.ghost_name }
         ensures value { result ≡ put_answer (cells_of_records self.old) x.0 }
         ensures after { cells_of_records self.new ≡ put (cells_of_records self.old) x.0 c }
     {
-        replace(self.records, x.0 as usize, c)
+        // By index: what `get_mut` lends did not close the proof that the list then holds c there.
+        let i = x.0 as usize;
+        if i >= self.records.len() {
+            return Err(PastTheEnd);
+        }
+        self.records[i] = c;
+        Ok(())
     }
 }

@@ -24,8 +24,6 @@ pub trait Store {
 }
 
 // What is written is read back, and nothing else changes.
-fn writes_stand() -> u8
+fn writes_stand()
     ensures { AWriteReplacesOneCell }
-{
-    0
-}
+{}

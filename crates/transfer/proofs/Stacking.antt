@@ -1,17 +1,17 @@
 -- One entry more or less on a stack: what is held, what is left and what it takes. Assumes nothing.
-use Rattle.std.proofs.Common.{◌≡◌, ℕ, zero, suc, ◌+◌, ◌-◌, ◌<◌, ◌≤◌, min, Bool, true, false, cond, List, [], ◌∷◌, ◌++◌, map, reverse, length, get_or, take, drop, Some, None, Ok, Err, Option, Result, sym, refl, ap, ◌∙◌, arith, MatchResult}
-use Rattle.std.specs.List.{slice_get}
-use Rattle.std.proofs.lemmas.List.{take_more, take_all, take_rest, reverse-append, length-map, length-take-le}
-use Rattle.sheet.specs.declared.kind.Kind.{Kind}
-use Rattle.sheet.specs.Kinds.{same}
-use Rattle.pile.proofs.Stacks.{held_less}
+use Rattle.std.proofs.Common.{◌≡◌, ℕ, zero, suc, ◌+◌, ◌*◌, ◌<◌, ◌≤◌, List, [], ◌∷◌, ◌++◌, reverse, length, get_or, take, Some, None, Ok, Err, Option, sym, refl, ap, ◌∙◌, arith}
+use Rattle.std.specs.List.{slice_get, sum_by}
+use Rattle.std.specs.Option.{ok_or}
+use Rattle.std.proofs.lemmas.List.Sums.{sum_by-cons}
+use Rattle.std.proofs.lemmas.List.{take_more, reverse-append, length-map, length-take-le}
 use Rattle.rows.specs.declared.entry.Entry.{Entry}
 use Rattle.rows.specs.declared.entry.Entry.TheVariants.{Value, Mark}
 use Rattle.rows.specs.declared.row.Row.{Row}
 use Rattle.rows.specs.Entries.{cells_of_entry, entry_of}
 use Rattle.rows.specs.Rows.{entries}
-use Rattle.transfer.specs.declared.breach.Breach.{Breach}
-use Rattle.transfer.specs.Stacks.{Stack, cells_on, less_kinds, and_then}
+use Rattle.rules.specs.declared.effects.Gives.{Gives}
+use Rattle.rules.specs.declared.effects.Gives.TheVariants as gives
+use Rattle.transfer.specs.Stacks.{Stack, cells_on, more}
 
 pub nth_some : {X : Type 0} (xs : List X) (i : ℕ) (x : X) → slice_get xs i ≡ Some x → (i < length xs) × (get_or xs i x ≡ x)
 nth_some [] i x h = let z : ◌≡◌ {A = ℕ} 0 1 = cc in absurd (omega arith)
@@ -29,34 +29,6 @@ one_more xs i x h =
     let p = nth_some xs i x h in
     ap reverse (take_more xs i x p.0 ∙ ap (λ y. take i xs ++ y ∷ []) p.1) ∙ reverse-append (take i xs) (x ∷ [])
 
--- a value of the kind at i
-pub value_there : (ts : List Kind) (i : ℕ) (d : Kind) → i < length ts → slice_get (map Value ts) i ≡ Some (Value (get_or ts i d))
-value_there [] i d h = absurd (omega (arith, h))
-value_there (t ∷ ts) zero d h = refl
-value_there (t ∷ ts) (suc i) d h = value_there ts i d (omega (arith, h))
-
--- kinds are taken one after another
-less_one : (t : Kind) (ts : List Kind) (s : Stack) → less_kinds (t ∷ ts) s ≡ and_then (less_kinds (t ∷ []) s) (less_kinds ts)
-less_one t ts [] = refl
-less_one t ts (Mark j ∷ s) = refl
-less_one t ts (Value u ∷ s) = by (same u t)
-  where
-    by : (b : Bool) → cond b (less_kinds ts s) None ≡ and_then (cond b (Some s) None) (less_kinds ts)
-    by true = refl
-    by false = refl
-
--- the last of those left is taken off, or stops
-pub taken_next : (ts : List Kind) (n : ℕ) (d : Kind) (s : Stack) (o E : Option Stack) → 0 < n → n ≤ length ts
-    → less_kinds (get_or ts (n - 1) d ∷ []) s ≡ o → less_kinds (reverse (take n ts)) s ≡ E → and_then o (less_kinds (reverse (take (n - 1) ts))) ≡ E
-taken_next ts n d s o E z l h inv =
-    ap (λ x. and_then x (less_kinds (reverse (take (n - 1) ts)))) (sym h)
-    ∙ sym (less_one (get_or ts (n - 1) d) (reverse (take (n - 1) ts)) s)
-    ∙ sym (ap (λ x. less_kinds x s) (held_less ts n d z l))
-    ∙ inv
-
-pub taken_none : (ts : List Kind) (s : Stack) → less_kinds (reverse (take (length ts) ts)) s ≡ less_kinds (reverse ts) s
-taken_none ts s = ap (λ x. less_kinds (reverse x) s) (take_all (length ts) ts (omega arith))
-
 -- the cells of one entry more
 pub cells_more : (es : Stack) (i c : ℕ) (e : Entry) → slice_get es i ≡ Some e → c ≡ cells_of_entry e
     → cells_on (reverse (take i es)) + c ≡ cells_on (reverse (take (i + 1) es))
@@ -64,33 +36,53 @@ cells_more es i c e h q =
     let k : cells_on (reverse (take (i + 1) es)) ≡ cells_of_entry e + cells_on (reverse (take i es)) = ap cells_on (one_more es i e h) in
     omega arith
 
+-- the cells of entries, in either direction
 pub few_cells : (e : Entry) → cells_of_entry e ≤ 5
 few_cells (Value k) = omega arith
 few_cells (Mark j) = omega arith
 
-drop_held : {X : Type 0} (n : ℕ) (xs : List X) → drop (min n (length xs)) xs ≡ drop n xs
-drop_held zero [] = refl
-drop_held (suc n) [] = let z : min (suc n) 0 ≡ 0 = omega arith in ap (λ m. drop m []) z
-drop_held zero (x ∷ xs) = let z : min 0 (suc (length xs)) ≡ 0 = omega arith in ap (λ m. drop m (x ∷ xs)) z
-drop_held (suc n) (x ∷ xs) = let z : min (suc n) (suc (length xs)) ≡ suc (min n (length xs)) = omega arith in ap (λ m. drop m (x ∷ xs)) z ∙ drop_held n xs
+pub cells_few : (s : Stack) → cells_on s ≤ 5 * length s
+cells_few [] = omega arith
+cells_few (e ∷ s) = let h = cells_few s in let f = few_cells e in omega arith
 
-take_held : {X : Type 0} (k : ℕ) (xs : List X) → take (min (length xs) k) xs ≡ take k xs
-take_held zero xs = let z : min (length xs) 0 ≡ 0 = omega arith in ap (λ m. take m xs) z
-take_held (suc k) [] = let z : min 0 (suc k) ≡ 0 = omega arith in ap (λ m. take m []) z
-take_held (suc k) (x ∷ xs) = let z : min (suc (length xs)) (suc k) ≡ suc (min (length xs) k) = omega arith in ap (λ m. take m (x ∷ xs)) z ∙ ap (λ ys. x ∷ ys) (take_held k xs)
+cells_append : (s r : Stack) → cells_on (s ++ r) ≡ cells_on s + cells_on r
+cells_append [] r = omega arith
+cells_append (e ∷ s) r = let h = cells_append s r in omega arith
 
--- a part of a list, whose ends are held to the list
-pub own_cells : {X : Type 0} (xs : List X) (n k i j : ℕ) → i ≡ min n (length xs) → j ≡ min (length (take (length xs - i) (drop i xs))) k
-    → take j (take (length xs - i) (drop i xs)) ≡ take k (drop n xs)
-own_cells xs n k i j e f =
-    let d : drop i xs ≡ drop n xs = ap (λ m. drop m xs) e ∙ drop_held n xs in
-    let t : take (length xs - i) (drop i xs) ≡ drop n xs = take_rest xs i ∙ d in
-    ap (λ ys. take j ys) t ∙ ap (λ m. take m (drop n xs)) (f ∙ ap (λ (ys : List _). min (length ys) k) t) ∙ take_held k (drop n xs)
+cells_reverse : (s : Stack) → cells_on (reverse s) ≡ cells_on s
+cells_reverse [] = refl
+cells_reverse (e ∷ s) =
+    let h = cells_reverse s in
+    let a : cells_on (reverse (e ∷ s)) ≡ cells_on (reverse s) + (cells_of_entry e + 0) = ap cells_on (reverse-append (e ∷ []) s) ∙ cells_append (reverse s) (e ∷ []) in
+    omega arith
 
--- where an answer can only be the first of two
-pub done : (r : Result (Unit {0}) Breach) (A B : Type 0) → MatchResult r (λ _. A) (λ _. B) → (B → ⊥) → A
-done (Ok u) A B h n = h
-done (Err b) A B h n = absurd (n h)
+pub cells_with : (g : Gives) (s : Stack) → cells_on (more g s) ≡ cells_on (more g []) + cells_on s
+cells_with gives.Nothing s = omega arith
+cells_with (gives.One t) s = omega arith
+cells_with (gives.Two t) s = omega arith
+cells_with (gives.Mark j) s = omega arith
+
+pub few_given : (g : Gives) → cells_on (more g []) ≤ 5
+few_given gives.Nothing = omega arith
+few_given (gives.One t) = omega arith
+few_given (gives.Two t) = omega arith
+few_given (gives.Mark j) = omega arith
+
+pub cells_sum : (es : List Entry) → sum_by cells_of_entry es ≡ cells_on (reverse es)
+cells_sum es = by es ∙ sym (cells_reverse es)
+  where
+    by : (es : List Entry) → sum_by cells_of_entry es ≡ cells_on es
+    by [] = refl
+    by (e ∷ es) = sum_by-cons cells_of_entry e es ∙ ap (λ n. cells_of_entry e + n) (by es)
 
 pub row_entries : (r : Row) → length r.bytes ≡ 40 → r.len ≤ 40 → length (entries r) ≡ r.len
 row_entries r k l = length-map (take r.len r.bytes) entry_of ∙ length-take-le r.len r.bytes (omega arith)
+
+-- what `ok_or` was given, by what it answers
+pub none_there : {X E : Type 0} (o : Option X) (e b : E) → ok_or o e ≡ Err b → o ≡ None
+none_there None e b h = refl
+none_there (Some x) e b h = let z : ◌≡◌ {A = ℕ} 0 1 = cc in absurd (omega arith)
+
+pub some_there : {X E : Type 0} (o : Option X) (e : E) (x : X) → ok_or o e ≡ Ok x → o ≡ Some x
+some_there None e x h = let z : ◌≡◌ {A = ℕ} 0 1 = cc in absurd (omega arith)
+some_there (Some y) e x h = let q : y ≡ x = cc in ap Some q

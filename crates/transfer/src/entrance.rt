@@ -3,7 +3,7 @@ ghost use Rattle.std.specs.Prelude.{◌≡◌, ◌≤◌, [], map, length, take,
 ghost use Rattle.pile.specs.Piles.{bottom_first, held, room};
 ghost use Rattle.rows.specs.Rows.{packed};
 
-use crate::stack::{parameters, push};
+use crate::stack::parameters;
 use pile::Pile;
 use rows::entry::Entry;
 use rows::row::Row;
@@ -15,11 +15,11 @@ use sheet::table::Table;
 fn put_all(kinds: &[Kind], stack: &mut Pile<'_, Entry>)
     requires empty { held stack.old ≡ [] }
     requires room { length kinds.now ≤ room stack.old }
-    ensures name { stack.new.places.ghost_name ≡ stack.old.places.ghost_name }
-    ensures held { bottom_first stack.new ≡ map Entry.Value kinds.now }
+    ensures { bottom_first stack.new ≡ map Entry.Value kinds.now }
 {
     for kind in kinds {
-        let _ = push(stack, Entry::Value(*kind));
+        // never refused: the stack has a place for each
+        let _ = stack.push(Entry::Value(*kind));
     }
 }
 

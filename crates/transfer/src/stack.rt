@@ -1,8 +1,9 @@
-// A stack under judgement, kept on a pile: a row is loaded, entries are taken off and given.
-ghost use Rattle.std.specs.Prelude.{◌≡◌, ◌+◌, ◌≤◌, true, [], ◌∷◌, ◌++◌, reverse, length, take as first, drop, MatchResult};
+// A stack under judgement: a row is loaded, entries are taken off and given.
+ghost use Rattle.std.specs.Prelude.{◌≡◌, ◌+◌, ◌≤◌, true, [], ◌∷◌, ◌++◌, reverse, length, take as first, drop, ◌<◌, ◌^◌, sum_by};
 ghost use Rattle.sheet.specs.Kinds.{same};
 ghost use Rattle.rules.specs.Lookups.{contents_of, ancestor as ancestor_of};
 ghost use Rattle.pile.specs.Piles.{held, depth, room};
+ghost use Rattle.rows.specs.Entries.{cells_of_entry};
 ghost use Rattle.rows.specs.Rows.{is_row};
 ghost use Rattle.transfer.specs.Stacks.{cells_on, listed, less_kinds, less_mark, leads_to, parameters_down, less, more, Took, Gave};
 ghost use Rattle.transfer.specs.Transfer.{stack_of};
@@ -17,222 +18,136 @@ use sheet::kind::Kind;
 use sheet::procedure::Procedure;
 use sheet::table::Table;
 
-// Refused by a full pile alone.
-pub(crate) fn push(stack: &mut Pile<'_, Entry>, entry: Entry) -> Result<(), Breach>
-    ensures name { stack.new.places.ghost_name ≡ stack.old.places.ghost_name }
-    ensures room { room stack.new ≡ room stack.old }
-    ensures value { MatchResult result (λ _. held stack.new ≡ entry ∷ held stack.old) (λ _. room stack.old ≤ depth stack.old) }
-    ensures len { MatchResult result (λ _. depth stack.new ≡ depth stack.old + 1) (λ _. room stack.old ≤ depth stack.old) }
-{
-    match stack.push(entry) {
-        Ok(()) => Ok(()),
-        Err(_) => Err(Breach::StackTooHigh),
-    }
-}
-
-// The entries of a row, on a stack with places for as many.
-pub(crate) fn load(row: Row, stack: &mut Pile<'_, Entry>)
-    requires row { is_row row ≡ true }
-    requires empty { held stack.old ≡ [] }
-    requires room { 40 ≤ room stack.old }
-    ensures name { stack.new.places.ghost_name ≡ stack.old.places.ghost_name }
-    ensures held { held stack.new ≡ stack_of row }
-    ensures room { room stack.new ≡ room stack.old }
-{
-    for i in 0..row.len() {
-        // a row has an entry at each number below its length
-        let Some(entry) = row.entry(i) else {
-            return;
-        };
-        // and the stack has forty places
-        let _ = push(stack, entry);
-    }
-}
-
-fn is_same(kind: Kind, other: Kind) -> bool
-    ensures { result ≡ same kind other }
-{
-    kind.letter() == other.letter()
-}
-
-// Takes a value of this kind off the top.
-fn take_kind(stack: &mut Pile<'_, Entry>, kind: Kind) -> Result<(), Breach>
-    ensures name { stack.new.places.ghost_name ≡ stack.old.places.ghost_name }
-    ensures room { room stack.new ≡ room stack.old }
-    ensures value { Took result (less_kinds (kind ∷ []) (held stack.old)) (held stack.new) }
-{
-    match stack.pop() {
-        Some(Entry::Value(top)) => if is_same(top, kind) {
-            Ok(())
-        } else {
-            Err(Breach::WrongStack)
-        },
-        _ => Err(Breach::WrongStack),
-    }
-}
-
-fn take_optional(stack: &mut Pile<'_, Entry>, kind: Option<Kind>) -> Result<(), Breach>
-    ensures name { stack.new.places.ghost_name ≡ stack.old.places.ghost_name }
-    ensures room { room stack.new ≡ room stack.old }
-    ensures value { Took result (less_kinds (listed kind) (held stack.old)) (held stack.new) }
-{
-    match kind {
-        None => Ok(()),
-        Some(kind) => take_kind(stack, kind),
-    }
-}
-
-fn take_kinds(
-    stack: &mut Pile<'_, Entry>,
-    top: Option<Kind>,
-    below: Option<Kind>,
-) -> Result<(), Breach>
-    ensures name { stack.new.places.ghost_name ≡ stack.old.places.ghost_name }
-    ensures room { room stack.new ≡ room stack.old }
-    ensures value { Took result (less_kinds (listed top ++ listed below) (held stack.old)) (held stack.new) }
-{
-    match take_optional(stack, top) {
-        Err(breach) => Err(breach),
-        Ok(()) => take_optional(stack, below),
-    }
-}
-
-// The last of the list is on top.
-fn take_all(stack: &mut Pile<'_, Entry>, kinds: &[Kind]) -> Result<(), Breach>
-    ensures name { stack.new.places.ghost_name ≡ stack.old.places.ghost_name }
-    ensures room { room stack.new ≡ room stack.old }
-    ensures value { Took result (less_kinds (reverse kinds.now) (held stack.old)) (held stack.new) }
-{
-    let mut left = kinds.len();
-    while left > 0 {
-        left -= 1;
-        let kind = kinds[left];
-        if let Err(breach) = take_kind(stack, kind) {
-            return Err(breach);
-        }
-    }
-    Ok(())
+// Kept on a pile of forty places, as many as a row may have entries.
+#[derive(Drop)]
+pub(crate) struct Entries<'a> {
+    pub(crate) pile: Pile<'a, Entry>,
+    ghost forty: { room pile ≡ 40 },
 }
 
 // The parameters of a procedure, as far as the table has cells.
 pub(crate) fn parameters<'a>(table: Table<'a>, procedure: Procedure) -> &'a [Kind]
     ensures { result.now ≡ first procedure.parameters (drop procedure.offset table.entry.cells.now) }
 {
-    let from = procedure.offset.min(table.cells.len());
-    let rest = &table.cells[from..];
-    let end = rest.len().min(procedure.parameters as usize);
-    &rest[..end]
+    let rest = table.cells.get(procedure.offset..).unwrap_or(&[]);
+    rest.get(..procedure.parameters as usize).unwrap_or(rest)
 }
 
-fn take_parameters(
-    table: Table<'_>,
-    procedure: Procedure,
-    stack: &mut Pile<'_, Entry>,
-) -> Result<(), Breach>
-    ensures name { stack.new.places.ghost_name ≡ stack.old.places.ghost_name }
-    ensures room { room stack.new ≡ room stack.old }
-    ensures value { Took result (less_kinds (parameters_down (contents_of table.entry) procedure) (held stack.old)) (held stack.new) }
+// The cells of the store that the entries stand for.
+fn cells_of(entries: &[Entry]) -> usize
+    requires { sum_by cells_of_entry entries.now < 2 ^ 64 }
+    ensures { result ≡ sum_by cells_of_entry entries.now }
 {
-    take_all(stack, parameters(table, procedure))
+    entries.iter().map(|entry| entry.cells()).sum()
 }
 
-fn leads_to(table: Table<'_>, links: usize, from: usize, to: usize) -> bool
-    ensures { result ≡ leads_to (ancestor_of (contents_of table.entry) links from) to }
-{
-    match ancestor(table, links, from) {
-        None => false,
-        Some(found) => found == to,
+impl<'a> Entries<'a> {
+    // An empty stack over these places.
+    pub(crate) fn over(places: &'a mut [Entry; 40]) -> Entries<'a>
+        ensures { held result.pile ≡ [] }
+    {
+        Entries {
+            pile: Pile::over(places),
+        }
     }
-}
 
-// Takes off a mark that leads from one procedure to the other.
-fn take_mark(
-    table: Table<'_>,
-    from: usize,
-    to: usize,
-    stack: &mut Pile<'_, Entry>,
-) -> Result<(), Breach>
-    ensures name { stack.new.places.ghost_name ≡ stack.old.places.ghost_name }
-    ensures room { room stack.new ≡ room stack.old }
-    ensures value { Took result (less_mark (contents_of table.entry) from to (held stack.old)) (held stack.new) }
-{
-    match stack.pop() {
-        Some(Entry::Mark(links)) => if leads_to(table, links as usize, from, to) {
-            Ok(())
-        } else {
-            Err(Breach::WrongStack)
-        },
-        _ => Err(Breach::WrongStack),
+    // Puts a row's entries on an empty stack; a record may be no row, so the call asks that it is one.
+    pub(crate) fn load(&mut self, row: Row)
+        requires row { is_row row ≡ true }
+        requires empty { held self.old.pile ≡ [] }
+        ensures { held self.new.pile ≡ stack_of row }
+    {
+        for byte in row.entry_bytes() {
+            // never refused: there are forty places
+            let _ = self.pile.push(Entry::from(*byte));
+        }
     }
-}
 
-fn take_call(
-    table: Table<'_>,
-    from: usize,
-    procedure: Procedure,
-    stack: &mut Pile<'_, Entry>,
-) -> Result<(), Breach>
-    ensures name { stack.new.places.ghost_name ≡ stack.old.places.ghost_name }
-    ensures room { room stack.new ≡ room stack.old }
-    ensures value { Took result (less (contents_of table.entry) from (Takes.Call procedure) (held stack.old)) (held stack.new) }
-{
-    match take_parameters(table, procedure, stack) {
-        Err(breach) => Err(breach),
-        Ok(()) => take_mark(table, from, procedure.parent as usize, stack),
+    // Takes a value of this kind off the top.
+    fn take_kind(&mut self, kind: Kind) -> Result<(), Breach>
+        ensures { Took result (less_kinds (kind ∷ []) (held self.old.pile)) (held self.new.pile) }
+    {
+        match self.pile.pop() {
+            Some(Entry::Value(top)) if top == kind => Ok(()),
+            _ => Err(Breach::WrongStack),
+        }
     }
-}
 
-// What an instruction of procedure `owner` takes.
-pub(crate) fn take(
-    table: Table<'_>,
-    owner: usize,
-    takes: Takes,
-    stack: &mut Pile<'_, Entry>,
-) -> Result<(), Breach>
-    ensures name { stack.new.places.ghost_name ≡ stack.old.places.ghost_name }
-    ensures room { room stack.new ≡ room stack.old }
-    ensures value { Took result (less (contents_of table.entry) owner takes (held stack.old)) (held stack.new) }
-{
-    match takes {
-        Takes::Kinds(top, below) => take_kinds(stack, top, below),
-        Takes::Parameters(procedure) => take_parameters(table, procedure, stack),
-        Takes::Call(procedure) => take_call(table, owner, procedure, stack),
+    fn take_kinds(&mut self, top: Option<Kind>, below: Option<Kind>) -> Result<(), Breach>
+        ensures { Took result (less_kinds (listed top ++ listed below) (held self.old.pile)) (held self.new.pile) }
+    {
+        if let Some(kind) = top {
+            self.take_kind(kind)?;
+        }
+        if let Some(kind) = below {
+            self.take_kind(kind)?;
+        }
+        Ok(())
     }
-}
 
-// The cells of the store that it stands for.
-pub(crate) fn cells_of(stack: &Pile<'_, Entry>) -> usize
-    requires { room stack.now ≤ 40 }
-    ensures cells { result ≡ cells_on (held stack.now) }
-    ensures few { result ≤ 200 }
-{
-    let mut cells = 0;
-    for i in 0..stack.len() {
-        let Some(entry) = stack.at(i) else {
-            return cells;
-        };
-        cells += entry.cells();
+    // The last of the list is on top.
+    fn take_all(&mut self, kinds: &[Kind]) -> Result<(), Breach>
+        ensures { Took result (less_kinds (reverse kinds.now) (held self.old.pile)) (held self.new.pile) }
+    {
+        for kind in kinds.iter().rev() {
+            self.take_kind(*kind)?;
+        }
+        Ok(())
     }
-    cells
-}
 
-// What an instruction gives; there are places for it where its cells fit the procedure.
-pub(crate) fn give(gives: Gives, stack: &mut Pile<'_, Entry>) -> Result<(), Breach>
-    ensures name { stack.new.places.ghost_name ≡ stack.old.places.ghost_name }
-    ensures room { room stack.new ≡ room stack.old }
-    ensures value { Gave result gives (depth stack.old) (room stack.old) (more gives (held stack.old)) (held stack.new) }
-{
-    match gives {
-        Gives::Nothing => Ok(()),
-        Gives::One(kind) => push(stack, Entry::Value(kind)),
-        Gives::Two(kind) => match push(stack, Entry::Value(kind)) {
-            Err(breach) => Err(breach),
-            Ok(()) => push(stack, Entry::Value(kind)),
-        },
-        Gives::Mark(links) => if links < 8 {
-            push(stack, Entry::Mark(links as u8))
-        } else {
-            Err(Breach::WrongStack)
-        },
+    // Takes off a mark that leads from one procedure to the other.
+    fn take_mark(&mut self, table: Table<'_>, from: usize, to: usize) -> Result<(), Breach>
+        ensures { Took result (less_mark (contents_of table.entry) from to (held self.old.pile)) (held self.new.pile) }
+    {
+        match self.pile.pop() {
+            Some(Entry::Mark(links)) if ancestor(table, links as usize, from) == Some(to) => Ok(()),
+            _ => Err(Breach::WrongStack),
+        }
+    }
+
+    // What an instruction of procedure `owner` takes.
+    pub(crate) fn take(
+        &mut self,
+        table: Table<'_>,
+        owner: usize,
+        takes: Takes,
+    ) -> Result<(), Breach>
+        ensures { Took result (less (contents_of table.entry) owner takes (held self.old.pile)) (held self.new.pile) }
+    {
+        match takes {
+            Takes::Kinds(top, below) => self.take_kinds(top, below),
+            Takes::Parameters(procedure) => self.take_all(parameters(table, procedure)),
+            Takes::Call(procedure) => {
+                self.take_all(parameters(table, procedure))?;
+                self.take_mark(table, owner, procedure.parent as usize)
+            }
+        }
+    }
+
+    // The cells of the store that they stand for.
+    pub(crate) fn cells(&self) -> usize
+        ensures cells { result ≡ cells_on (held self.now.pile) }
+        ensures few { result ≤ 200 }
+    {
+        cells_of(self.pile.as_slice())
+    }
+
+    // What an instruction gives; there are places for it where its cells fit the procedure.
+    pub(crate) fn give(&mut self, gives: Gives) -> Result<(), Breach>
+        ensures { Gave result gives (depth self.old.pile) 40 (more gives (held self.old.pile)) (held self.new.pile) }
+    {
+        match gives {
+            Gives::Nothing => {}
+            Gives::One(kind) => self.pile.push(Entry::Value(kind))?,
+            Gives::Two(kind) => {
+                self.pile.push(Entry::Value(kind))?;
+                self.pile.push(Entry::Value(kind))?;
+            }
+            Gives::Mark(links) => {
+                let links = u8::try_from(links).map_err(|_| Breach::WrongStack)?;
+                self.pile.push(Entry::Mark(links))?;
+            }
+        }
+        Ok(())
     }
 }

@@ -1,8 +1,7 @@
 // The transfer function of the verifier.
-ghost use Rattle.std.specs.Prelude.{◌≡◌, ℕ, ◌<◌, ◌≤◌, true, false, length, Ok, Err, nat_le};
-ghost use Rattle.std.specs.List.{slice_get};
+ghost use Rattle.std.specs.Prelude.{◌≡◌, ℕ, [], ◌<◌, ◌≤◌, true, false, length, Ok, Err, nat_le};
 ghost use Rattle.rules.specs.Lookups.{contents_of, owner as owner_of, room_at};
-ghost use Rattle.pile.specs.Piles.{held, room};
+ghost use Rattle.pile.specs.Piles.{held};
 ghost use Rattle.rows.specs.Entries.{proper};
 ghost use Rattle.rows.specs.Rows.{every, is_row};
 ghost use Rattle.transfer.specs.declared.breach.Breach.TheVariants.{WrongStack};
@@ -11,13 +10,11 @@ ghost use Rattle.transfer.specs.Stacks.{cells_on, less, more, fitting};
 ghost use Rattle.transfer.specs.Transfer.{handed, stack_of, has_next, stays, passed_on, transfer, outcome, SendsARow, Checked};
 
 use crate::breach::Breach;
-use crate::stack::{cells_of, give, load, take};
-use pile::Pile;
+use crate::stack::Entries;
 use rows::entry::Entry;
 use rows::row::Row;
 use rules::effects::{Effect, Gives, Way, effect_of};
 use rules::lookup::{owner, room_at};
-use sheet::instruction::Instruction;
 use sheet::table::Table;
 
 // The stack that an instruction leaves, and where it goes on with it.
@@ -27,35 +24,23 @@ pub struct Sent {
     pub way: Way,
 }
 
-fn instruction_at(table: Table<'_>, n: usize) -> Option<Instruction>
-    ensures { result ≡ slice_get table.entry.code.now n }
+// The cells of what is given.
+fn cells_given(gives: Gives) -> usize
+    ensures { result ≡ cells_on (more gives []) }
 {
-    if n < table.code.len() {
-        Some(table.code[n])
-    } else {
-        None
-    }
-}
-
-// The cells of a stack with what is given on top of it.
-fn cells_with(gives: Gives, stack: &Pile<'_, Entry>) -> usize
-    requires { room stack.now ≤ 40 }
-    ensures { result ≡ cells_on (more gives (held stack.now)) }
-{
-    let below = cells_of(stack);
     match gives {
-        Gives::Nothing => below,
-        Gives::One(_) => 1 + below,
-        Gives::Two(_) => 2 + below,
-        Gives::Mark(_) => 5 + below,
+        Gives::Nothing => 0,
+        Gives::One(_) => 1,
+        Gives::Two(_) => 2,
+        Gives::Mark(_) => 5,
     }
 }
 
-fn fits(table: Table<'_>, n: usize, gives: Gives, stack: &Pile<'_, Entry>) -> bool
-    requires { room stack.now ≤ 40 }
-    ensures { result ≡ nat_le (cells_on (more gives (held stack.now))) (room_at (contents_of table.entry) n) }
+// Whether a stack with what is given on top of it has no more cells than the procedure allows.
+fn fits(table: Table<'_>, n: usize, gives: Gives, stack: &Entries<'_>) -> bool
+    ensures { result ≡ nat_le (cells_on (more gives (held stack.now.pile))) (room_at (contents_of table.entry) n) }
 {
-    cells_with(gives, stack) <= room_at(table, n)
+    cells_given(gives) + stack.cells() <= room_at(table, n)
 }
 
 // The next instruction lies in the same procedure.
@@ -77,22 +62,16 @@ fn stays(table: Table<'_>, n: usize, way: Way) -> bool
 }
 
 // The stack with what is given, as a row; a stack of at most forty cells and of proper entries is one.
-fn leave(effect: Effect, stack: &mut Pile<'_, Entry>) -> Result<Sent, Breach>
-    requires { room stack.old ≡ 40 }
-    ensures name { stack.new.places.ghost_name ≡ stack.old.places.ghost_name }
-    ensures value { cells_on (more effect.gives (held stack.old)) ≤ 40 → fitting effect.gives ≡ true → every proper (held stack.old) ≡ true → (n : ℕ) → outcome n result ≡ Ok (handed effect.way n (more effect.gives (held stack.old))) }
+fn leave(effect: Effect, stack: &mut Entries<'_>) -> Result<Sent, Breach>
+    ensures value { cells_on (more effect.gives (held stack.old.pile)) ≤ 40 → fitting effect.gives ≡ true → every proper (held stack.old.pile) ≡ true → (n : ℕ) → outcome n result ≡ Ok (handed effect.way n (more effect.gives (held stack.old.pile))) }
     ensures row { SendsARow result }
 {
-    match give(effect.gives, stack) {
-        Err(breach) => Err(breach),
-        Ok(()) => match Row::pack(stack) {
-            None => Err(Breach::WrongStack),
-            Some(row) => Ok(Sent {
-                row,
-                way: effect.way,
-            }),
-        },
-    }
+    stack.give(effect.gives)?;
+    let row = Row::pack(&stack.pile).ok_or(Breach::WrongStack)?;
+    Ok(Sent {
+        row,
+        way: effect.way,
+    })
 }
 
 // The rules are tested in the order of Breach.
@@ -103,50 +82,21 @@ fn hand_on(table: Table<'_>, n: usize, effect: Effect, row: Row) -> Result<Sent,
     ensures row { SendsARow result }
 {
     let mut places = [Entry::Mark(0); 40];
-    let mut stack = Pile::over(&mut places);
-    load(row, &mut stack);
-    match take(table, owner(table, n), effect.takes, &mut stack) {
-        Err(breach) => Err(breach),
-        Ok(()) => {
-            if !fits(table, n, effect.gives, &stack) {
-                return Err(Breach::StackTooHigh);
-            }
-            if !stays(table, n, effect.way) {
-                return Err(Breach::PastTheEnd);
-            }
-            leave(effect, &mut stack)
-        }
+    let mut stack = Entries::over(&mut places);
+    stack.load(row);
+    stack.take(table, owner(table, n), effect.takes)?;
+    if !fits(table, n, effect.gives, &stack) {
+        return Err(Breach::StackTooHigh);
     }
-}
-
-fn carry(table: Table<'_>, n: usize, row: Row) -> Result<Sent, Breach>
-    ensures value { Checked (contents_of table.entry) → is_row row ≡ true → outcome n result ≡ transfer (contents_of table.entry) n (stack_of row) }
-    ensures stray { is_row row ≡ false → result ≡ Err WrongStack }
-    ensures row { SendsARow result }
-{
-    if !row.is_reached() {
-        return Err(Breach::WrongStack);
+    if !stays(table, n, effect.way) {
+        return Err(Breach::PastTheEnd);
     }
-    match instruction_at(table, n) {
-        None => Ok(Sent {
-            row,
-            way: Way::Halt,
-        }),
-        Some(x) => {
-            let effect = effect_of(table, n, x);
-            match effect.way {
-                Way::Halt => Ok(Sent {
-                    row,
-                    way: Way::Halt,
-                }),
-                _ => hand_on(table, n, effect, row),
-            }
-        }
-    }
+    leave(effect, &mut stack)
 }
 
 // What instruction n does with the stack of a row. Whatever the table, the number and the row are, it answers.
 // In a table that keeps the rules, stacks go to instructions of the same procedure and are rows that fit it.
+#[tactic(auto, using(crate::proofs::Laws::checked_tables_fit_rows, crate::proofs::Laws::transfer_stays_inside, crate::proofs::Laws::transfer_fits, crate::proofs::Laws::transfer_hands_rows))]
 pub fn transfer(table: Table<'_>, n: usize, row: Row) -> Result<Sent, Breach>
     ensures value { Checked (contents_of table.entry) → is_row row ≡ true → outcome n result ≡ transfer (contents_of table.entry) n (stack_of row) }
     ensures stray { is_row row ≡ false → result ≡ Err WrongStack }
@@ -156,15 +106,19 @@ pub fn transfer(table: Table<'_>, n: usize, row: Row) -> Result<Sent, Breach>
     ensures fits { TransferFits }
     ensures rows { TransferHandsRows }
 {
-    carry(table, n, row)
-}
-
-// In a table that keeps the rules, stacks go to instructions of the same procedure and are rows that fit it.
-pub fn transfer_stands() -> u8
-    ensures table { CheckedTablesFitRows }
-    ensures inside { TransferStaysInside }
-    ensures fits { TransferFits }
-    ensures rows { TransferHandsRows }
-{
-    0
+    if !row.is_reached() {
+        return Err(Breach::WrongStack);
+    }
+    let halted = Sent {
+        row,
+        way: Way::Halt,
+    };
+    let Some(x) = table.code.get(n) else {
+        return Ok(halted);
+    };
+    let effect = effect_of(table, n, *x);
+    match effect.way {
+        Way::Halt => Ok(halted),
+        _ => hand_on(table, n, effect, row),
+    }
 }

@@ -6,11 +6,11 @@ use run::answer::{Finish, Report};
 use run::run::begin;
 use store::store::Store;
 
-// How a run ended: the steps made, the number, and the registers.
+// The steps made, how the run came to its end, and the registers.
 #[derive(Clone, Copy, Drop)]
 pub(crate) struct Ended {
     pub(crate) count: u64,
-    pub(crate) number: u8,
+    pub(crate) finish: Finish,
     pub(crate) report: Report,
 }
 
@@ -24,24 +24,20 @@ pub(crate) fn drive<'a, S: Store, H: Host>(
     host: &mut H,
     cut: u32,
 ) -> anyhow::Result<Ended> {
-    let Ok(mut run) = begin(passed, store) else {
-        return Err(anyhow!("the store is too short or too long"));
-    };
+    let mut run = begin(passed, store).map_err(|_| anyhow!("the store is too short or too long"))?;
     let mut count = 0u64;
-    let mut number = 0u8;
+    let mut finish = Finish::Spent;
     for _ in 0..MOST_SLICES {
         let went = run.go(store, host, cut);
         count = count.saturating_add(u64::from(went.count));
-        number = went.finish.number();
-        match went.finish {
-            Finish::Spent => {}
-            _ => break,
+        finish = went.finish;
+        if !matches!(finish, Finish::Spent) {
+            break;
         }
     }
-    let report = run.report();
     Ok(Ended {
         count,
-        number,
-        report,
+        finish,
+        report: run.report(),
     })
 }

@@ -7,13 +7,13 @@ mod yard;
 
 use crate::drive::{Ended, drive};
 use crate::yard::Yard;
-use admit::{Passed, admit};
 use anyhow::anyhow;
 use columns::value_line::write_value;
 use columns::value_text::read_values;
 use host::host::Host;
 use host::lines::Lines;
 use host::lists::Lists;
+use run::answer::Report;
 use sheet::value::Value;
 use std::fs;
 use std::io::Write;
@@ -32,69 +32,61 @@ const VALUES: usize = 20;
 fn show(rt: &HostRuntime, ended: Ended) -> anyhow::Result<()> {
     let Ended {
         count,
-        number,
+        finish,
         report,
     } = ended;
-    let pc = report.pc.0;
-    let sp = report.sp.0;
-    let mp = report.mp.0;
-    let ep = report.ep.0;
-    let np = report.np.0;
+    let number = finish.number();
+    let Report { pc, sp, mp, ep, np } = report;
+    let (pc, sp, mp, ep, np) = (pc.0, sp.0, mp.0, ep.0, np.0);
     println!(rt; "z {number} after {count} steps, PC {pc}, SP {sp}, MP {mp}, EP {ep}, NP {np}")?;
     Ok(())
 }
 
-fn over_records<H: Host>(
+// The store that a run is over: a value, since no closure takes every kind of store.
+#[derive(Clone, Copy, Drop)]
+enum Backing {
+    Records,
+    Packed,
+}
+
+// Runs the yard's table over a store of this kind, in slices of `cut` steps.
+fn drive_over<H: Host>(
     rt: &HostRuntime,
-    passed: Passed<'_>,
+    backing: Backing,
+    yard: &Yard,
     host: &mut H,
     cut: u32,
 ) -> anyhow::Result<Ended> {
-    let mut records = vec![in rt.alloc(); Cell::Free; CELLS]?;
-    let mut store = Records::over(&mut records);
-    drive(passed, &mut store, host, cut)
-}
-
-fn over_packed<H: Host>(
-    rt: &HostRuntime,
-    passed: Passed<'_>,
-    host: &mut H,
-    cut: u32,
-) -> anyhow::Result<Ended> {
-    let mut codes = vec![in rt.alloc(); 0u8; CELLS]?;
-    let mut words = vec![in rt.alloc(); 0u64; CELLS]?;
-    let mut store = Packed::over(&mut codes, &mut words);
-    drive(passed, &mut store, host, cut)
-}
-
-fn passed_table<'a>(yard: &'a Yard) -> anyhow::Result<Passed<'a>> {
-    match admit(yard.table(), &yard.rows) {
-        Ok(passed) => Ok(passed),
-        Err(_) => Err(anyhow!("the rows are refused")),
+    let passed = yard.passed()?;
+    match backing {
+        Backing::Records => {
+            let mut records = vec![in rt.alloc(); Cell::Free; CELLS]?;
+            let mut store = Records::over(&mut records);
+            drive(passed, &mut store, host, cut)
+        }
+        Backing::Packed => {
+            let mut codes = vec![in rt.alloc(); 0u8; CELLS]?;
+            let mut words = vec![in rt.alloc(); 0u64; CELLS]?;
+            let mut store = Packed::over(&mut codes, &mut words);
+            drive(passed, &mut store, host, cut)
+        }
     }
 }
 
 // Values waiting in a list, values written into another.
 fn with_lists(
     rt: &HostRuntime,
+    backing: Backing,
     yard: &Yard,
     typed: &[u8],
-    packed: bool,
     cut: u32,
 ) -> anyhow::Result<()> {
     let mut input = vec![in rt.alloc(); Value::Integer(0); VALUES]?;
-    let Ok(n) = read_values(typed, &mut input) else {
-        return Err(anyhow!("the values are refused"));
-    };
+    let n = read_values(typed, &mut input).map_err(|_| anyhow!("the values are refused"))?;
     input.truncate(n);
     let mut output = vec![in rt.alloc(); Value::Integer(0); VALUES]?;
     let mut host = Lists::over(&input, &mut output);
-    let passed = passed_table(yard)?;
-    let ended = if packed {
-        over_packed(rt, passed, &mut host, cut)?
-    } else {
-        over_records(rt, passed, &mut host, cut)?
-    };
+    let ended = drive_over(rt, backing, yard, &mut host, cut)?;
     for value in host.so_far() {
         rt.stdout().write_all(&write_value(*value))?;
     }
@@ -104,21 +96,14 @@ fn with_lists(
 // Lines of values typed, lines of values written.
 fn with_lines(
     rt: &HostRuntime,
+    backing: Backing,
     yard: &Yard,
     typed: &[u8],
-    packed: bool,
     cut: u32,
 ) -> anyhow::Result<()> {
     let mut output = vec![in rt.alloc(); 0u8; BYTES]?;
-    let Ok(mut host) = Lines::over(typed, &mut output) else {
-        return Err(anyhow!("the values are refused"));
-    };
-    let passed = passed_table(yard)?;
-    let ended = if packed {
-        over_packed(rt, passed, &mut host, cut)?
-    } else {
-        over_records(rt, passed, &mut host, cut)?
-    };
+    let mut host = Lines::over(typed, &mut output).map_err(|_| anyhow!("the values are refused"))?;
+    let ended = drive_over(rt, backing, yard, &mut host, cut)?;
     rt.stdout().write_all(host.text())?;
     show(rt, ended)
 }
@@ -128,10 +113,10 @@ fn four_ways(rt: &HostRuntime, name: &str) -> anyhow::Result<()> {
     let typed = fs::read(rt, format!(in rt.alloc(); "{name}.values")?)?;
     let yard = Yard::read(rt.alloc(), &text)?;
     println!(rt; "{name}")?;
-    with_lists(rt, &yard, &typed, false, 100)?;
-    with_lists(rt, &yard, &typed, true, 1)?;
-    with_lines(rt, &yard, &typed, false, 7)?;
-    with_lines(rt, &yard, &typed, true, 3)
+    with_lists(rt, Backing::Records, &yard, &typed, 100)?;
+    with_lists(rt, Backing::Packed, &yard, &typed, 1)?;
+    with_lines(rt, Backing::Records, &yard, &typed, 7)?;
+    with_lines(rt, Backing::Packed, &yard, &typed, 3)
 }
 
 fn run(rt: &HostRuntime) -> anyhow::Result<()> {

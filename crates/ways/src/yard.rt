@@ -1,30 +1,13 @@
 // A yard's table, read and judged.
+use admit::{Passed, admit};
 use anyhow::anyhow;
 use prepare::prepare::prepare;
 use rows::row::Row;
 use sheet::instruction::Instruction;
 use sheet::kind::Kind;
-use sheet::mnemonic::Mnemonic;
 use sheet::procedure::Procedure;
 use sheet::table::Table;
 use std::alloc::Global;
-
-const BLANK_PROCEDURE: Procedure = Procedure {
-    parent: 0,
-    first: 0,
-    parameters: 0,
-    result: None,
-    offset: 0,
-    count: 0,
-};
-
-const BLANK_INSTRUCTION: Instruction = Instruction {
-    mnemonic: Mnemonic::Hlt,
-    t: None,
-    t2: None,
-    p: 0,
-    q: 0,
-};
 
 // Long enough for the yards here.
 const PLACES: usize = 100;
@@ -34,26 +17,25 @@ pub(crate) struct Yard {
     procedures: Vec<Procedure>,
     cells: Vec<Kind>,
     code: Vec<Instruction>,
-    pub(crate) rows: Vec<Row>,
+    rows: Vec<Row>,
 }
 
 impl Yard {
     pub(crate) fn read(heap: Global, text: &[u8]) -> anyhow::Result<Yard> {
-        let mut procedures = vec![in heap; BLANK_PROCEDURE; PLACES]?;
+        let mut procedures = vec![in heap; Procedure::NONE; PLACES]?;
         let mut cells = vec![in heap; Kind::Integer; PLACES]?;
-        let mut code = vec![in heap; BLANK_INSTRUCTION; PLACES]?;
+        let mut code = vec![in heap; Instruction::NONE; PLACES]?;
         let mut rows = vec![in heap; Row::unreached(); PLACES]?;
         let mut places = vec![in heap; 0usize; PLACES]?;
-        let Ok(prepared) = prepare(
+        let prepared = prepare(
             text,
             &mut procedures,
             &mut cells,
             &mut code,
             &mut rows,
             &mut places,
-        ) else {
-            return Err(anyhow!("the table is refused"));
-        };
+        )
+        .map_err(|_| anyhow!("the table is refused"))?;
         procedures.truncate(prepared.extent.procedures);
         cells.truncate(prepared.extent.cells);
         code.truncate(prepared.extent.code);
@@ -65,11 +47,13 @@ impl Yard {
         })
     }
 
-    pub(crate) fn table(&self) -> Table<'_> {
-        Table {
+    // Its table, with the rows that judging left.
+    pub(crate) fn passed(&self) -> anyhow::Result<Passed<'_>> {
+        let table = Table {
             procedures: &self.procedures,
             cells: &self.cells,
             code: &self.code,
-        }
+        };
+        admit(table, &self.rows).map_err(|_| anyhow!("the rows are refused"))
     }
 }

@@ -1,14 +1,18 @@
-use Rattle.std.proofs.Common.{◌≡◌, ◌+◌, ◌≤◌, length}
-use Rattle.columns.specs.Scans.{first_failing}
-use Rattle.columns.specs.TableText.{counted, passes, lines_of, first_fault}
+use Rattle.std.proofs.Common.{◌≡◌, ◌+◌, ◌≤◌, Bool, map, length}
+use Rattle.std.specs.Iterator.Adapters.{enumerate_source, enumerate_count}
+use Rattle.numerals.specs.Lines.{lines_left}
+use Rattle.columns.specs.Scans.{Computes, first_failing}
+use Rattle.columns.specs.TableLines.{read_line}
+use Rattle.columns.specs.TableText.{Said, start, counted, lines_of}
+use Rattle.columns.specs.declared.table_text.Counts.{Counts}
 use Rattle.columns.proofs.Scanning.{Below}
 use Rattle.columns.proofs.table_text.first_fault.Given as goal
 
-abbrev pub invariant-loop-rest : goal.invariant-loop-rest
-invariant-loop-rest l =
-    (first_failing counted (passes l.scan) l.counts l.number (lines_of l.rest) ≡ first_fault l.scan l.text)
-    × (l.number + length l.rest ≤ length l.text + 1)
-    × Below l.counts l.number
-
-abbrev pub decreases-loop-rest : goal.decreases-loop-rest
-decreases-loop-rest l = length l.rest
+abbrev pub invariant-loop-i : goal.invariant-loop-i
+invariant-loop-i g l =
+    (goal.iterator-loop-i g).can_next l.i-iterator
+    × (goal.iterator-loop-i g).is_finite l.i-iterator
+    × ((test : Counts → Said → Bool) → Computes (goal.F-post g l.passes) test
+    → first_failing counted test l.counts (enumerate_count l.i-iterator + 1) (map read_line (lines_left (enumerate_source l.i-iterator))) ≡ first_failing counted test start 1 (lines_of l.text))
+    × (enumerate_count l.i-iterator + length (lines_left (enumerate_source l.i-iterator)) ≤ length l.text)
+    × Below l.counts (enumerate_count l.i-iterator + 1)

@@ -1,9 +1,12 @@
-use Rattle.std.proofs.Common.{◌≡◌, length, arith}
-use Rattle.std.proofs.lemmas.Bool.Decides.{nat_tests}
-use Rattle.columns.proofs.Laying.{own_done}
+use Rattle.std.proofs.Common.{◌∙◌, rules, tests}
+use Rattle.std.proofs.lemmas.Iterator.Consumers.{count_from_yields_List, YieldsList-from_first}
+use Rattle.std.proofs.lemmas.Iterator.Search.{YieldsList-from_take_while}
+use Rattle.numerals.specs.Lines.{lines, lines_left}
+use Rattle.columns.proofs.Laying.{says_cell, cells_before}
 use Rattle.columns.proofs.table_text.own_cells.Goals as goal
 
 pub returns : goal.returns
 returns c =
-    let none : length c.loop-rest.rest.now ≡ 0 = grind (arith, nat_tests) in
-    own_done c.loop-rest.rest.now c.loop-rest.n _ none c.loop-rest.invariant.0
+    count_from_yields_List c.take_while.result c.count.result c.count.ensures.ran
+    (YieldsList-from_take_while _ says_cell (YieldsList-from_first (λ x. x.now) lines_left (lines c.args.text.now) cc) c.take_while.ensures.closure c.take_while.ensures.done (λ x b q k. search (rules, tests)))
+    ∙ cells_before c.args.text.now

@@ -1,9 +1,8 @@
-use Rattle.std.proofs.Common.{rules}
 use Rattle.columns.proofs.Causes.{refused_for_cause}
 use Rattle.columns.proofs.table_text.read_table.Goals as goal
 
-pub returns-in_err-check : goal.returns-in_err-check
-returns-in_err-check c = record { value = search rules; procedures = search rules; cells = search rules; code = search rules; cause = refused_for_cause }
+pub returns-in_err-check-clause-cause : goal.returns-in_err-check-clause-cause
+returns-in_err-check-clause-cause c = refused_for_cause
 
-pub returns : goal.returns
-returns c = record { value = search rules; procedures = search rules; cells = search rules; code = search rules; cause = refused_for_cause }
+pub returns-clause-cause : goal.returns-clause-cause
+returns-clause-cause c = refused_for_cause

@@ -1,5 +1,5 @@
 use Rattle.std.proofs.Common.{◌≡◌, length, rules}
-use Rattle.columns.proofs.Filling.{two_columns, room_for_two}
+use Rattle.columns.proofs.Filling.{two_columns}
 use Rattle.columns.proofs.verdict.two_columns.Goals as goal
 
 pub returns : goal.returns
@@ -7,8 +7,3 @@ returns c =
     let k : length c.copy_from_slice.new.self ≡ 20 = search rules in
     let e = two_columns 122 c.copy_from_slice.new.self c.copy_from_slice-2.new.self k in
     cc
-
-pub slice_bounds-line-end-2 : goal.slice_bounds-line-end-2
-slice_bounds-line-end-2 c =
-    let k : length c.copy_from_slice.new.self ≡ 20 = search rules in
-    room_for_two 122 c.copy_from_slice.new.self k

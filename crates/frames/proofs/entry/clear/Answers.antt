@@ -1,9 +1,9 @@
-use Rattle.std.proofs.Common.{sym, ◌∙◌, arith}
+use Rattle.std.proofs.Common.{sym, ◌∙◌}
 use Rattle.frames.proofs.Walks.{clear_on, clear_end}
 use Rattle.frames.proofs.entry.clear.Goals as goal
 
-pub loop-kind-preserved : goal.loop-kind-preserved
-loop-kind-preserved g c = (sym (clear_on _ _ _ _ _ _ c.loop-kind-test.true c.write.ensures.after) ∙ c.loop-kind.invariant.0, omega arith)
+pub loop-i-preserved : goal.loop-i-preserved
+loop-i-preserved g c = sym (clear_on _ _ _ _ _ _ c.loop-i-test.true c.write.ensures.after) ∙ c.loop-i.invariant
 
 pub returns : goal.returns
-returns g c = clear_end _ _ _ _ c.loop-kind-test.false ∙ c.loop-kind.invariant.0
+returns g c = clear_end _ _ _ _ c.loop-i-test.false ∙ c.loop-i.invariant

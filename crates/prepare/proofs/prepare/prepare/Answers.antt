@@ -1,11 +1,16 @@
-use Rattle.std.proofs.Common.{length, Ok, Err, ap, ◌∙◌}
+use Rattle.std.proofs.Common.{length, Ok, Err, ap, ◌∙◌, arith}
 use Rattle.std.proofs.lemmas.Result.{err_from_is_err_and}
 use Rattle.columns.specs.TableText.{read_table, room_of}
 use Rattle.rules.specs.Lookups.{contents_of}
 use Rattle.judge.specs.Handing.{meanings}
 use Rattle.prepare.specs.Preparing.{ready}
-use Rattle.prepare.proofs.Reading.{reads, ready_is, rows_are, places_are, records_are}
+use Rattle.prepare.proofs.Reading.{fits, reads, ready_is, rows_are, places_are, records_are}
 use Rattle.prepare.proofs.prepare.prepare.Goals as goal
+
+pub table_in-table-requires : goal.table_in-table-requires
+table_in-table-requires c =
+    let f = fits c.args.text.now c.args.procedures.now c.args.cells.now c.args.code.now c.in_ok-extent.extent c.in_ok-extent.ensures.value in
+    record { procedures = omega (arith, f.0); cells = omega (arith, f.1); code = omega (arith, f.2) }
 
 pub returns-in_err-reached : goal.returns-in_err-reached
 returns-in_err-reached c =

@@ -1,6 +1,8 @@
-use Rattle.std.proofs.Common.{rules}
-use Rattle.rules.proofs.OperandLaws.{instruction_is_checked, operands_are_checked, operands_name}
+use Rattle.rules.proofs.OperandLaws.{operands_are_checked}
 use Rattle.rules.proofs.operands.check_operands.Goals as goal
 
-pub returns : goal.returns
-returns c = record { value = search rules; each = instruction_is_checked; law = operands_are_checked; names = operands_name }
+pub returns-in-Some-clause-law : goal.returns-in-Some-clause-law
+returns-in-Some-clause-law c = operands_are_checked
+
+pub returns-in-None-clause-law : goal.returns-in-None-clause-law
+returns-in-None-clause-law c = operands_are_checked

@@ -34,12 +34,13 @@ returns-then-answers-calls g c =
       small = small_tables_come_out;
     }
 
-pub returns-in-Err : goal.returns-in-Err
-returns-in-Err g c =
+pub returns-in_err-run : goal.returns-in_err-run
+returns-in_err-run g c =
     let enough : length c.args.calls.now ≤ length c.args.answers.now = omega arith in
+    let r = err_from_is_err_and c.from_residual-in_err-run.result c.from_residual-in_err-run.ensures.1 in
     record {
-      value = by_store c.args.table c.args.rows c.args.calls.now (g.S.Store.cells c.args.store.now) (g.H.Host.means c.args.host.now) c.args.answers.now c.in_ok-passed.passed _ _ c.in_ok-passed.ensures.value enough c.in-Err.ensures.value c.in-Err.ensures.after;
-      kept = tt;
+      value = rw (r.1, r.2) (by_store c.args.table c.args.rows c.args.calls.now (g.S.Store.cells c.args.store.now) (g.H.Host.means c.args.host.now) c.args.answers.now c.in_ok-passed.passed _ _ c.in_ok-passed.ensures.value enough c.in_err-run.ensures.value c.in_err-run.ensures.after);
+      kept = none_kept c.args.table c.args.rows.now (length (g.S.Store.cells c.args.store.now)) (g.H.Host.means c.args.host.now) c.args.calls.now _ _ _ _ _ r.1;
       law = equal_counts;
       typed = admitted_runs_stay_typed;
       frames = open_frames_lead_to_place_0;
@@ -51,7 +52,7 @@ pub make_all-requires : goal.make_all-requires
 make_all-requires g c =
     let enough : length c.args.calls.now ≤ length c.args.answers.now = omega arith in
     record {
-      fits = fits c.args.table c.args.rows c.args.calls.now (g.S.Store.cells c.args.store.now) (g.H.Host.means c.args.host.now) c.args.answers.now c.in_ok-passed.passed c.in-Ok.begun _ c.in_ok-passed.ensures.value enough c.in-Ok.ensures.value c.in-Ok.ensures.after;
+      fits = fits c.args.table c.args.rows c.args.calls.now (g.S.Store.cells c.args.store.now) (g.H.Host.means c.args.host.now) c.args.answers.now c.in_ok-passed.passed c.in_ok-run.run' _ c.in_ok-passed.ensures.value enough c.in_ok-run.ensures.value c.in_ok-run.ensures.after;
       room = enough;
     }
 
@@ -59,11 +60,11 @@ pub returns : goal.returns
 returns g c =
     let enough : length c.args.calls.now ≤ length c.args.answers.now = omega arith in
     let p = c.in_ok-passed.ensures.value in
-    let b = c.in-Ok.ensures in
+    let b = c.in_ok-run.ensures in
     let m = c.make_all.ensures in
     record {
-      value = by_all c.args.table c.args.rows c.args.calls.now (g.S.Store.cells c.args.store.now) (g.H.Host.means c.args.host.now) c.args.answers.now c.in_ok-passed.passed c.in-Ok.begun _ p enough b.value b.after _ _ _ _ m.value m.after m.same;
-      kept = by_promise c.args.table c.args.rows c.args.calls.now (g.S.Store.cells c.args.store.now) (g.H.Host.means c.args.host.now) c.args.answers.now c.in_ok-passed.passed c.in-Ok.begun _ p enough b.value b.after _ _ _ _ m.value m.after m.same;
+      value = by_all c.args.table c.args.rows c.args.calls.now (g.S.Store.cells c.args.store.now) (g.H.Host.means c.args.host.now) c.args.answers.now c.in_ok-passed.passed c.in_ok-run.run' _ p enough b.value b.after _ _ _ _ m.value m.after m.same;
+      kept = by_promise c.args.table c.args.rows c.args.calls.now (g.S.Store.cells c.args.store.now) (g.H.Host.means c.args.host.now) c.args.answers.now c.in_ok-passed.passed c.in_ok-run.run' _ p enough b.value b.after _ _ _ _ m.value m.after m.same;
       law = equal_counts;
       typed = admitted_runs_stay_typed;
       frames = open_frames_lead_to_place_0;

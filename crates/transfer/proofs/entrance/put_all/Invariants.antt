@@ -5,8 +5,8 @@ use Rattle.transfer.proofs.entrance.put_all.Given as goal
 
 -- the kinds so far are on the stack
 abbrev pub invariant-loop-kind : goal.invariant-loop-kind
-invariant-loop-kind l =
-    (held l.stack ≡ reverse (take l.kind-index (map Value l.kinds)))
-    × (depth l.stack ≡ l.kind-index)
-    × (room l.stack ≡ room l.initial.stack)
-    × (l.stack.places.ghost_name ≡ l.initial.stack.places.ghost_name)
+invariant-loop-kind l = record {
+  held : held l.stack ≡ reverse (map Value (take l.kind-index l.kinds));
+  depth : depth l.stack ≡ l.kind-index;
+  room : room l.stack ≡ room l.initial.stack;
+}

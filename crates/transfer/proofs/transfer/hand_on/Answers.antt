@@ -7,18 +7,15 @@ use Rattle.transfer.specs.Transfer.{stack_of}
 use Rattle.transfer.proofs.Fitting.{row_proper, less_proper, passes}
 use Rattle.transfer.proofs.transfer.hand_on.Goals as goal
 
-pub returns-else-not-stays : goal.returns-else-not-stays
-returns-else-not-stays c =
+pub returns-clause-value : goal.returns-clause-value
+returns-clause-value c small fit =
     let T = contents_of c.args.table in
     let n = c.args.n in
     let e = c.args.effect in
-    let s = held c.take.new.stack in
+    let s = held c.take.new.self.pile in
     let took : less T (owner T n) e.takes (stack_of c.args.row) ≡ Some s
-    = ap (λ o. less T o e.takes (stack_of c.args.row)) (sym c.owner.ensures) ∙ ap (λ x. less T c.owner.result e.takes x) (sym c.load.ensures.held) ∙ c.in-Ok.ensures.value in
-    let fits = sym c.if-not-fits.ensures in
-    record {
-      value = λ small fit. c.leave.ensures.value (let l = leb-true (cells_on (more e.gives s)) (room_at T n) fits in omega arith) fit
-          (less_proper T (owner T n) e.takes (stack_of c.args.row) s took (row_proper c.args.row c.requires.row)) n
-          ∙ passes T n e.gives e.way s _ took fits (sym c.if-not-stays.ensures);
-      row = c.leave.ensures.row;
-    }
+    = ap (λ o. less T o e.takes (stack_of c.args.row)) (sym c.owner.ensures) ∙ ap (λ x. less T c.owner.result e.takes x) (sym c.load.ensures) ∙ c.in_ok-take.ensures in
+    let fits = sym c.fits.ensures ∙ c.if-not-fits.false in
+    c.leave.ensures.value (let l = leb-true (cells_on (more e.gives s)) (room_at T n) fits in omega arith) fit
+    (less_proper T (owner T n) e.takes (stack_of c.args.row) s took (row_proper c.args.row c.requires.row)) n
+    ∙ passes T n e.gives e.way s _ took fits (sym c.stays.ensures ∙ c.if-not-stays.false)

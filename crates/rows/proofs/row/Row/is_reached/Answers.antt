@@ -1,14 +1,19 @@
-use Rattle.std.proofs.Common.{◌≡◌, ℕ, ◌-◌, true, map, take, sym, ap, ◌∙◌, subst, arith}
-use Rattle.std.proofs.lemmas.List.{take_rest}
-use Rattle.rows.specs.Entries.{entry_of, proper}
-use Rattle.rows.specs.Rows.{every, blanks}
-use Rattle.rows.proofs.Laws.{valid_last}
+use Rattle.std.proofs.Common.{◌≡◌, ◌≤◌, length, sym, ◌∙◌, arith, rules}
+use Rattle.rows.proofs.Laws.{proper_part, blank_part, valid_last, invalid}
 use Rattle.rows.proofs.row.Row.is_reached.Goals as goal
 
-pub returns : goal.returns
-returns c =
-    let z : c.args.self.len - 0 ≡ c.args.self.len = omega arith in
-    let p : every proper (map entry_of (take c.args.self.len c.args.self.bytes)) ≡ true
-    = subst (λ (m : ℕ). every proper (map entry_of (take m c.args.self.bytes)) ≡ true) z (sym c.if-not-all_proper.ensures) in
-    c.all_blank.ensures ∙ ap blanks (take_rest c.args.self.bytes c.args.self.len)
-    ∙ sym (valid_last c.args.self c.if-n-gt40.false p)
+pub returns-then-all_proper : goal.returns-then-all_proper
+returns-then-all_proper c =
+    let r = c.args.self in
+    let parts = c.in-Some.ensures.cases in
+    let n : length r.bytes ≡ 40 = search rules in
+    let l : r.len ≤ 40 = omega (arith, n, parts.0) in
+    blank_part r c.in-Some.rest.now c.all_blank.result parts.2 c.all_blank.ensures
+    ∙ sym (valid_last r l (sym (proper_part r c.in-Some.entries.now c.all_proper.result parts.1 c.all_proper.ensures) ∙ c.if-all_proper.true))
+
+pub returns-else-all_proper : goal.returns-else-all_proper
+returns-else-all_proper c =
+    let r = c.args.self in
+    let parts = c.in-Some.ensures.cases in
+    c.if-all_proper.false
+    ∙ sym (invalid r (sym (proper_part r c.in-Some.entries.now c.all_proper.result parts.1 c.all_proper.ensures) ∙ c.if-all_proper.false))
