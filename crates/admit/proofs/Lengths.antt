@@ -1,16 +1,16 @@
 -- No row has more than forty entries, so parameters that make no row are no row's.
-use Rattle.std.proofs.Common.{◌≡◌, ℕ, ◌≤◌, Bool, true, false, cond, List, [], ◌∷◌, map, reverse, length, take, None, Ok, Err, sym, refl, ap, ◌∙◌, arith}
+use Rattle.std.proofs.Common.{◌≡◌, ℕ, ◌≤◌, Bool, true, false, cond, List, map, reverse, length, take, None, Ok, Err, sym, refl, ap, ◌∙◌, arith}
 use Rattle.std.proofs.lemmas.List.{length-map, length-reverse, length-take}
 use Rattle.sheet.specs.declared.kind.Kind.{Kind}
 use Rattle.rules.specs.declared.fault.TableFault.{TableFault}
 use Rattle.rows.specs.declared.entry.Entry.TheVariants.{Value}
 use Rattle.rows.specs.declared.row.Row.{Row}
 use Rattle.rows.specs.Entries.{entry_of, proper}
-use Rattle.rows.specs.Rows.{every, entries, is_row, meaning, packed}
+use Rattle.rows.specs.Rows.{entries, is_row, meaning, packed}
 use Rattle.rows.proofs.Laws.{valid_len}
 use Rattle.transfer.specs.Stacks.{Stack}
 use Rattle.transfer.specs.Transfer.{stack_of}
-use Rattle.transfer.proofs.Fitting.{every_reverse, packs}
+use Rattle.transfer.proofs.Fitting.{every_reverse, values_proper, packs}
 use Rattle.judge.specs.declared.flaw.Flaw.TheVariants.{Differs}
 use Rattle.judge.specs.Flaws.{flaw_at}
 use Rattle.judge.specs.Flow.{same_stack}
@@ -18,10 +18,6 @@ use Rattle.judge.proofs.Handing.{reached, unreached}
 use Rattle.judge.proofs.Inside.{stacks_tell}
 use Rattle.judge.specs.Handing.{must_be}
 use Rattle.admit.specs.Local.{Check}
-
-values_proper : (ts : List Kind) → every proper (map Value ts) ≡ true
-values_proper [] = refl
-values_proper (t ∷ ts) = values_proper ts
 
 short : (row : Row) → is_row row ≡ true → length (stack_of row) ≤ 40
 short row e =

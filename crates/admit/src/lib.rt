@@ -6,14 +6,14 @@ ghost use Rattle.judge.specs.AdmissionLaws.{AdmitAcceptsExactlyLocalRows, JudgeL
 ghost use Rattle.admit.specs.Admissions.{admission};
 ghost use Rattle.admit.specs.Laws.{Right, PassesExactlyRightRows};
 
+use judge::check_rules;
+use local::Admission;
 use rows::row::Row;
 use rules::fault::TableFault;
-use scan::check_all;
 use sheet::table::Table;
 
 mod height;
 mod local;
-mod scan;
 
 // A table whose rows were admitted. Only `admit` makes one, and while it stands the lists cannot be written.
 #[derive(Drop)]
@@ -36,7 +36,8 @@ impl<'a> Passed<'a> {
     }
 }
 
-// Reads the rows of a table, one record for each instruction; records past these are ignored.
+// Reads the rows of a table, one record for each instruction; records past these are ignored. First the rules of tables are
+// asked, then rows enough, then the rules of operands, and then the rows.
 pub fn admit<'a>(table: Table<'a>, rows: &'a [Row]) -> Result<Passed<'a>, TableFault>
     ensures value { result ≡ admission table.entry rows.entry }
     ensures right { IfOk result Right }
@@ -44,6 +45,11 @@ pub fn admit<'a>(table: Table<'a>, rows: &'a [Row]) -> Result<Passed<'a>, TableF
     ensures exact { AdmitAcceptsExactlyLocalRows }
     ensures judged { JudgeLeavesRowsThatAdmitAccepts }
 {
-    check_all(table, rows)?;
+    check_rules(table, rows.len())?;
+    let admission = Admission {
+        table,
+        rows: &rows[..table.code.len()],
+    };
+    admission.check_rows()?;
     Ok(Passed { table, rows })
 }

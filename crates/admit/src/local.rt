@@ -1,5 +1,5 @@
 // The local rule at each instruction.
-ghost use Rattle.std.specs.Prelude.{◌≡◌, ◌<◌, true, [], ◌∷◌, length};
+ghost use Rattle.std.specs.Prelude.{◌≡◌, ◌<◌, true, length};
 ghost use Rattle.rules.specs.Lookups.{contents_of};
 ghost use Rattle.paths.specs.Admitting.{admit};
 ghost use Rattle.rows.specs.Rows.{is_row, meaning};
@@ -12,15 +12,15 @@ use crate::height::cells_of;
 use judge::flaw::Flaw;
 use judge::meet::must_be;
 use rows::row::Row;
-use rules::effects::Way;
 use rules::fault::TableFault;
-use rules::lookup::{owner, procedure_at, room_at};
+use rules::lookup::{procedure_of, room_at};
 use sheet::procedure::Procedure;
 use sheet::table::Table;
 use transfer::entrance::entry_row;
 use transfer::transfer::{Sent, transfer};
 
 // A table that keeps the rules, and the rows lent for it, one for each instruction.
+// No type of its own for such a table: `transfer` takes any table, and promises more of this one.
 #[derive(Clone, Copy, Drop)]
 pub(crate) struct Admission<'a> {
     pub(crate) table: Table<'a>,
@@ -48,8 +48,8 @@ impl<'a> Admission<'a> {
     fn check_head(&self, i: usize, row: Row) -> Result<(), TableFault>
         ensures { result ≡ head_right (contents_of self.now.table) i (meaning row) }
     {
-        let procedure = procedure_at(self.table, owner(self.table, i));
-        if procedure.first as usize == i {
+        let procedure = procedure_of(self.table, i);
+        if usize::from(procedure.first) == i {
             self.check_entry(procedure, i, row)
         } else {
             self.check_height(i, row)
@@ -60,7 +60,7 @@ impl<'a> Admission<'a> {
     fn check_entry(&self, procedure: Procedure, i: usize, row: Row) -> Result<(), TableFault>
         ensures { result ≡ must_be (meaning row) i (entry_of (contents_of self.now.table) procedure).1 }
     {
-        // parameters that make no row are the row of no instruction
+        // more than forty parameters make no row, so the instruction has not theirs
         let parameters = entry_row(self.table, procedure).ok_or(Flaw::Differs.at(i))?;
         must_be(row, i, parameters)
     }
@@ -90,28 +90,20 @@ impl<'a> Admission<'a> {
 
     // Each stack handed on must be the row of the instruction that it goes to, the label first.
     fn hold_all(&self, i: usize, sent: Sent) -> Result<(), TableFault>
-        requires inside { i < length self.now.rows.now }
-        requires row { is_row sent.row ≡ true }
+        requires { i < length self.now.rows.now }
         ensures { result ≡ all_there (meanings self.now.rows.now) (handed sent.way i (stack_of sent.row)) }
     {
-        match sent.way {
-            Way::Halt => Ok(()),
-            Way::Next => self.hold(i + 1, sent.row),
-            Way::Jump(label) => self.hold(label, sent.row),
-            Way::Fork(label) => self.hold_both(label, i + 1, sent.row),
+        let (first, second) = sent.way.successors(i);
+        if let Some(j) = first {
+            self.hold(j, sent.row)?;
         }
+        if let Some(k) = second {
+            self.hold(k, sent.row)?;
+        }
+        Ok(())
     }
 
-    // One after the other.
-    fn hold_both(&self, j: usize, k: usize, row: Row) -> Result<(), TableFault>
-        requires { is_row row ≡ true }
-        ensures { result ≡ all_there (meanings self.now.rows.now) ((j, stack_of row) ∷ (k, stack_of row) ∷ []) }
-    {
-        self.hold(j, row)?;
-        self.hold(k, row)
-    }
-
-    // Instruction j must have this row; none is lent past the end.
+    // Instruction j must have this row; none is lent past the end. A record may be no row, so the call asks that this is one.
     fn hold(&self, j: usize, row: Row) -> Result<(), TableFault>
         requires { is_row row ≡ true }
         ensures { result ≡ must_be (row_at (meanings self.now.rows.now) j) j (stack_of row) }

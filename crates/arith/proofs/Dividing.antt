@@ -1,9 +1,11 @@
 -- The quotient toward zero and the remainder make up the dividend.
-use Rattle.std.proofs.Common.{◌≡◌, ℕ, zero, suc, ◌+◌, ◌*◌, ◌/◌, ◌%◌, ◌<◌, ℤ, pos, negsuc, ◌+ℤ◌, ◌*ℤ◌, neg_ℤ, nat_abs, ◌≤ℤ◌, Some, sym, refl, ap, ◌∙◌, subst, mod-lt, div-add-mod', zero-mul, arith}
+use Rattle.std.proofs.Common.{◌≡◌, ℕ, zero, suc, ◌+◌, ◌*◌, ◌/◌, ◌%◌, ◌<◌, ℤ, pos, negsuc, ◌+ℤ◌, ◌*ℤ◌, neg_ℤ, nat_abs, ◌≤ℤ◌, Some, Ok, sym, refl, ap, ◌∙◌, subst, mod-lt, div-add-mod', zero-mul, arith}
 use lib.IntN.{zero-*ℤ, neg_ℤ-+ℤ, negsuc-*ℤ-pos}
 use lib.Signed.{quot_z, rem_z}
 use Rattle.std.proofs.lemmas.Int.{ints}
 use Rattle.std.proofs.lemmas.Bool.Decides.{nat_tests}
+use Rattle.sheet.specs.declared.operation.Arithmetic.TheVariants.{Div}
+use Rattle.arith.specs.Integers.{integer_arithmetic}
 use Rattle.arith.specs.Quotients.{Divides, OnItsSide, whole_quotient}
 
 whole : (a b : ℕ) → a / b * b + a % b ≡ a
@@ -52,3 +54,6 @@ answer_divides a b q e =
     let positive : 0 < nat_abs b = grind (arith, nat_tests) in
     let same : quot_z a b ≡ q = grind (arith, nat_tests) in
     subst (Divides a b) same (divides a b positive)
+
+pub ratio_divides : (x y q : ℤ) → integer_arithmetic Div x y ≡ Ok q → Divides x y q
+ratio_divides x y q e = answer_divides x y q (grind (arith, nat_tests))

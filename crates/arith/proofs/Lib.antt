@@ -1,5 +1,5 @@
 mod Dividing
-mod Patterns
+pub mod Patterns
 mod Ranges
 mod Steps
 mod Truncating

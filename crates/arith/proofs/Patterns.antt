@@ -1,14 +1,11 @@
 -- A finite real and its 64 bits are read from each other.
-use Rattle.std.proofs.Common.{◌≡◌, ℕ, ◌^◌, ◌<◌, Bool, true, false, cond, not, T, Some, None, Ok, sym, refl, ap, ◌∙◌, subst, arith}
+use Rattle.std.proofs.Common.{◌≡◌, ℕ, ◌^◌, ◌<◌, Bool, true, false, cond, not, T, Some, None, sym, refl, ap, ◌∙◌, subst, arith}
 use lib.Ieee.{Float, nan, inf, fin, binary64, fits, is_nan, of_bits, to_bits}
 use lib.Ieee.Bits.{of_bits-to_bits, to_bits-of_bits}
 use Rattle.std.specs.Float.{float_is_finite}
-use Rattle.std.specs.Result.{result_ok}
-use Rattle.sheet.specs.declared.stop.Stop.TheVariants.{OutsideKind}
-use Rattle.arith.specs.Answers.{demand, ◌>>◌}
-use Rattle.arith.specs.Reals.{pattern_of, of_pattern, real_of}
+use Rattle.arith.specs.Reals.{pattern_of, of_pattern}
 
-number_if_finite : (x : Float) → float_is_finite x ≡ true → T (not (is_nan x))
+pub number_if_finite : (x : Float) → float_is_finite x ≡ true → T (not (is_nan x))
 unfolding float_is_finite is_nan
 number_if_finite nan h = let z : ◌≡◌ {A = Bool} false true = h in grind arith
 number_if_finite (inf s) h = tt
@@ -28,11 +25,3 @@ pub bits_back : (b : ℕ) (x : Float) → b < 2 ^ 64 → of_pattern b ≡ Some x
 bits_back b x l e =
     let parts = of_kept (float_is_finite (of_bits binary64 b)) x (of_bits binary64 b) e in
     ap (to_bits binary64) (sym parts.1) ∙ to_bits-of_bits binary64 b l (number_if_finite (of_bits binary64 b) parts.0)
-
--- a real that was tested is there where it is finite
-tested : (b : Bool) (x : Float) → result_ok (demand b OutsideKind >> Ok x) ≡ cond b (Some x) None
-tested true x = refl
-tested false x = refl
-
-pub kept_part : (x : Float) → result_ok (real_of x) ≡ cond (float_is_finite x) (Some x) None
-kept_part x = tested (float_is_finite x) x

@@ -1,6 +1,7 @@
 // Integers of 32 bits: a result outside them is refused.
-ghost use Rattle.std.specs.Prelude.{◌≡◌, ◌+ℤ◌, ◌-ℤ◌, ◌*ℤ◌, neg_ℤ};
+ghost use Rattle.std.specs.Prelude.{◌≡◌, ◌+ℤ◌, ◌*ℤ◌, neg_ℤ, ℤ, Ok};
 ghost use Rattle.sheet.specs.declared.operation.Arithmetic.TheVariants.{Div};
+ghost use Rattle.arith.specs.Quotients.{Divides};
 ghost use Rattle.arith.specs.Integers.{integer_of, integer_arithmetic, integer_checked, character_of};
 
 use sheet::operation::Arithmetic;
@@ -12,9 +13,12 @@ pub fn negation(x: i32) -> Result<i32, Stop>
     x.checked_neg().ok_or(Stop::OutsideKind)
 }
 
+#[tactic(auto, using(crate::proofs::Dividing::ratio_divides))]
 fn ratio(x: i32, y: i32) -> Result<i32, Stop>
-    ensures { result ≡ integer_arithmetic Div x y }
+    ensures value { result ≡ integer_arithmetic Div x y }
+    ensures law { (q : ℤ) → integer_arithmetic Div x y ≡ Ok q → Divides x y q }
 {
+    // In 32 bits, the form that docs/DECISIONS.md fixes; a zero divisor is told apart first, since `checked_div` answers None for both refusals.
     if y == 0 {
         return Err(Stop::ZeroDivisor);
     }
@@ -42,7 +46,7 @@ pub fn indexed(a: i32, i: i32, q: i32) -> Result<i32, Stop>
 pub fn checked(p: i32, q: i32, i: i32) -> Result<i32, Stop>
     ensures { result ≡ integer_checked p q i }
 {
-    if p <= i && i <= q {
+    if (p..=q).contains(&i) {
         Ok(i)
     } else {
         Err(Stop::OutsideBounds)

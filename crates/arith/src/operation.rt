@@ -1,4 +1,4 @@
-// The operations on values: kinds are tested first, then each operation is the one of its kind.
+// The operations on values. A value of another kind than the operation takes is refused first; exact.rt, relation.rt and rounded.rt compute.
 ghost use Rattle.std.specs.Prelude.{◌≡◌, ◌^◌, ◌≤ℤ◌, pos, negsuc};
 ghost use Rattle.arith.specs.Operations.{arithmetic, binary_result, conversion, increment, index, negation, unary_result, Proper};
 ghost use Rattle.arith.specs.Relations.{relation};
@@ -13,6 +13,7 @@ use sheet::stop::Stop;
 use sheet::value::Value;
 
 // The lower value is the left operand.
+// Here and below each operand has a line: a generic function of both would promise by `try_from_gives`, which each caller would have to open.
 pub fn binary(op: Binary, lower: Value, top: Value) -> Result<Value, Stop>
     ensures value { result ≡ binary_result op lower top }
     ensures proper { Proper result }
@@ -48,7 +49,6 @@ pub fn unary(op: Unary, x: Value) -> Result<Value, Stop>
     }
 }
 
-// Here and below each operand is taken by a line of its own, the lower first, which shows whose refusal comes first.
 fn computed(op: Arithmetic, numeric: Numeric, lower: Value, top: Value) -> Result<Value, Stop>
     ensures { result ≡ arithmetic op numeric lower top }
 {

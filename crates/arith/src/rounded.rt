@@ -29,7 +29,7 @@ pub fn negation(x: f64) -> Result<f64, Stop>
     finite(-x)
 }
 
-// The fraction is dropped first, and the range is tested after.
+// A real that is not finite is refused first; then the fraction is dropped, and the range is tested last.
 pub fn whole_part(x: f64) -> Result<i32, Stop>
     ensures { result ≡ whole_part x }
 {
@@ -37,7 +37,7 @@ pub fn whole_part(x: f64) -> Result<i32, Stop>
     narrowed(i128::from(to_whole(x)))
 }
 
-// The fraction is dropped, and what lies past 64 bits stops at their ends. By itself: inline, the check found no proof of the whole part.
+// The fraction is dropped, and what lies past 64 bits stops at their ends. By itself: inline, the check finds no proof of the whole part.
 fn to_whole(x: f64) -> i64
     ensures { result ≡ Ieee.to_signed 63 x }
 {

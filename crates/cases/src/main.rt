@@ -17,19 +17,24 @@ use lister::text::list_table;
 use std::io::Write;
 use std::{fs, io};
 
-const ABOUT: &'static str =
+const ABOUT: &str =
     "How each text is answered: the number of the refusal and its line, or 0 and the count of instructions;
 then how many places of the three lists lent stay as they were.
 
 table                                    number  place procedures  cells   code
 ";
 
+// The text NAME.txt.
+fn read_text(rt: &HostRuntime, name: &str) -> io::Result<Vec<u8>> {
+    fs::read(rt, format!(in rt.alloc(); "{name}.txt")?)
+}
+
 fn show(rt: &HostRuntime, case: Case<'_>) -> io::Result<()> {
     let heap = rt.alloc();
     let name = case.name;
     let text = match case.recipe {
         Some(recipe) => recipe.text(heap)?.into_bytes(),
-        None => fs::read(rt, format!(in heap; "{name}.txt")?)?,
+        None => read_text(rt, name)?,
     };
     let outcome = try_table(heap, &text, case.room)?;
     let number = outcome.number();
@@ -42,7 +47,7 @@ fn show(rt: &HostRuntime, case: Case<'_>) -> io::Result<()> {
     println!(rt; "{name:<41}{number:>6}{place:>7}{p:>11}{d:>7}{i:>7}")
 }
 
-const VALUES_ABOUT: &'static str = "
+const VALUES_ABOUT: &str = "
 How each text of values is answered: the number of the refusal and its line, or 0 and the count of values;
 then how many places of the list lent stay as they were, and whether the values write back as they stood.
 
@@ -51,28 +56,27 @@ values                                   number  place  places
 
 fn show_values(rt: &HostRuntime, name: &str, room: usize) -> io::Result<()> {
     let heap = rt.alloc();
-    let text = fs::read(rt, format!(in heap; "{name}.txt")?)?;
+    let text = read_text(rt, name)?;
     let ValueOutcome {
         answer,
         untouched,
         writes_back,
     } = try_values(heap, &text, room)?;
-    match answer {
-        Ok(count) => {
-            let back = if writes_back { "same" } else { "differs" };
-            println!(rt; "{name:<41}{:>6}{count:>7}{untouched:>8}  {back}", 0)
-        }
-        Err(fault) => {
-            let number = fault.number();
-            let line = fault.line();
-            println!(rt; "{name:<41}{number:>6}{line:>7}{untouched:>8}")
-        }
-    }
+    let (number, place) = match answer {
+        Ok(count) => (0, count),
+        Err(fault) => (fault.number(), fault.line()),
+    };
+    let back = match writes_back {
+        None => "",
+        Some(true) => "  same",
+        Some(false) => "  differs",
+    };
+    println!(rt; "{name:<41}{number:>6}{place:>7}{untouched:>8}{back}")
 }
 
 fn list(rt: &HostRuntime, name: &str) -> io::Result<()> {
     let heap = rt.alloc();
-    let text = fs::read(rt, format!(in heap; "{name}.txt")?)?;
+    let text = read_text(rt, name)?;
     let listing = list_table(heap, &text)?;
     println!(rt; "\n---- {name}")?;
     rt.stdout().write_all(&listing)

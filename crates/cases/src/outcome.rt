@@ -18,6 +18,7 @@ pub struct Outcome {
     pub untouched: Extent,
 }
 
+// Number and place apart, since `end_line` of lister gives both as one line written in columns.
 impl Outcome {
     // 0 where the text was read.
     pub fn number(self) -> u8
@@ -42,12 +43,12 @@ impl Outcome {
 
 // What every place holds before: no text lays such records, but for cells of kind a.
 const PROCEDURE: Procedure = Procedure {
-    parent: 65535,
-    first: 65535,
-    parameters: 65535,
+    parent: u16::MAX,
+    first: u16::MAX,
+    parameters: u16::MAX,
     result: Some(Kind::Address),
     offset: usize::MAX,
-    count: 65535,
+    count: u16::MAX,
 };
 
 const CELL: Kind = Kind::Address;

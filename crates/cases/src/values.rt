@@ -1,5 +1,5 @@
 // How a text of values is answered, what is left of the list, and whether its values write back as they stood.
-ghost use Rattle.std.specs.Prelude.{◌≡◌, IfOk, length};
+ghost use Rattle.std.specs.Prelude.{◌≡◌, IfOk};
 ghost use Rattle.columns.specs.ValueText.{read_values, how_many};
 
 use columns::fault::TextFault;
@@ -13,7 +13,7 @@ use std::alloc::{AllocError, Global};
 pub struct ValueOutcome {
     pub answer: Result<usize, TextFault>,
     pub untouched: usize, // how many places still hold what they held before
-    pub writes_back: bool, // of a text that is refused it says nothing
+    pub writes_back: Option<bool>, // None where the text is refused
 }
 
 // What every place holds before: no text lays an address.
@@ -25,10 +25,8 @@ fn is_blank(value: &Value) -> bool {
 
 fn written(heap: Global, values: &[Value]) -> Result<Vec<u8>, AllocError> {
     let mut text = Vec::new(heap);
-    for value in values {
-        if !is_blank(value) {
-            text.extend_from_slice(&write_value(*value))?;
-        }
+    for value in values.iter().filter(|value| !is_blank(value)) {
+        text.extend_from_slice(&write_value(*value))?;
     }
     Ok(text)
 }
@@ -40,10 +38,13 @@ pub fn try_values(heap: Global, text: &[u8], room: usize) -> Result<ValueOutcome
     let mut values = vec![in heap; BLANK; room]?;
     let answer = read_values(text, &mut values);
     let untouched = values.iter().filter(|value| is_blank(value)).count();
-    let back = written(heap, &values)?;
+    let writes_back = match answer {
+        Ok(_) => Some(written(heap, &values)?.as_slice() == text),
+        Err(_) => None,
+    };
     Ok(ValueOutcome {
         answer,
         untouched,
-        writes_back: back.as_slice() == text,
+        writes_back,
     })
 }

@@ -19,7 +19,7 @@ module _ {C X : Type 0} (count : C → X → C) (test : C → X → Bool) where
       let rest : xs ≡ front ++ (y ∷ back) = cc in
       subst (λ (w : X). test (tally count (count c w) front) y ≡ true) same (all front y back rest)
 
-  none_by : (c : C) (n : ℕ) (x : X) (xs : List X) (b : Bool) → test c x ≡ b → cond b (first_failing count test (count c x) (n + 1) xs) (Some n) ≡ None
+  pub none_by : (c : C) (n : ℕ) (x : X) (xs : List X) (b : Bool) → test c x ≡ b → cond b (first_failing count test (count c x) (n + 1) xs) (Some n) ≡ None
       → (test c x ≡ true) × (first_failing count test (count c x) (n + 1) xs ≡ None)
   none_by c n x xs true e h = (e, h)
   none_by c n x xs false e h = grind arith

@@ -1,5 +1,5 @@
 -- Laying a text's records into the lists: what is left to lay gives the whole.
-use Rattle.std.proofs.Common.{◌≡◌, ℕ, suc, ◌+◌, ◌<◌, ◌≤◌, Bool, true, false, cond, List, [], ◌∷◌, map, length, take, set, Some, None, Ok, Err, refl, ap, ◌∙◌, arith}
+use Rattle.std.proofs.Common.{◌≡◌, ℕ, suc, ◌+◌, ◌<◌, ◌≤◌, Bool, true, false, cond, List, [], ◌∷◌, map, length, take, set, None, Ok, Err, refl, ap, ◌∙◌, arith}
 use Rattle.std.specs.List.{prefix_len}
 use Rattle.std.proofs.lemmas.Bool.Decides.{nat_tests}
 use Rattle.std.proofs.lemmas.List.Folds.{length-prefix_len}
@@ -11,6 +11,7 @@ use Rattle.columns.specs.declared.line.Line.TheVariants as line
 use Rattle.columns.specs.declared.table_text.Counts.{Counts}
 use Rattle.columns.specs.Scans.{first_failing, laid}
 use Rattle.columns.specs.TableLines.{read_line}
+use Rattle.columns.proofs.Causes.{none_by}
 use Rattle.columns.specs.TableText.{Order, Said, counted, in_order, passes, start, lines_of, own_cells, procedures_of, cells_of, code_of, first_fault}
 
 -- ---- the cell lines that come first
@@ -42,14 +43,9 @@ abbrev pub Orderly : Counts → List Said → Type 0
 Orderly c [] = Unit {0}
 Orderly c (x ∷ xs) = (in_order c x ≡ true) × Orderly (counted c x) xs
 
-orderly_by : (c : Counts) (n : ℕ) (x : Said) (xs : List Said) (b : Bool) → in_order c x ≡ b → cond b (first_failing counted (passes Order) (counted c x) (n + 1) xs) (Some n) ≡ None
-    → (in_order c x ≡ true) × (first_failing counted (passes Order) (counted c x) (n + 1) xs ≡ None)
-orderly_by c n x xs true e h = (e, h)
-orderly_by c n x xs false e h = grind arith
-
 pub orderly : (c : Counts) (n : ℕ) (xs : List Said) → first_failing counted (passes Order) c n xs ≡ None → Orderly c xs
 orderly c n [] h = tt
-orderly c n (x ∷ xs) h = let p = orderly_by c n x xs (in_order c x) refl h in (p.0, orderly (counted c x) (n + 1) xs p.1)
+orderly c n (x ∷ xs) h = let p = none_by counted (passes Order) c n x xs (in_order c x) refl h in (p.0, orderly (counted c x) (n + 1) xs p.1)
 
 few_cells : (c : Counts) (xs : List Said) → Orderly c xs → c.own ≤ 250 → c.own + own_cells xs ≤ 250
 few_cells c [] o h = omega arith

@@ -1,7 +1,8 @@
 mod Scanning
+mod ValueScanning
 mod Laying
 mod Filling
 pub mod Causes
-mod Values
+pub mod Values
 mod ValueCauses
 mod ValueLaying

@@ -1,7 +1,7 @@
 -- A value that is written is read back.
-use Rattle.std.proofs.Common.{◌≡◌, ℕ, suc, ◌+◌, ◌-◌, ◌^◌, ◌<◌, ◌≤◌, true, false, cond, T, List, [], ◌∷◌, ◌++◌, length, get_or, take, replicate, ℤ, pos, negsuc, nat_abs, Some, None, Ok, sym, refl, ap, ◌∙◌, subst, arith}
-use lib.Ieee.{Float, fits, binary64, to_bits, of_bits}
-use lib.Ieee.Bits.{of_bits-to_bits, to_bits-lt}
+use Rattle.std.proofs.Common.{◌≡◌, ℕ, suc, ◌+◌, ◌-◌, ◌^◌, ◌<◌, ◌≤◌, true, false, T, List, [], ◌∷◌, ◌++◌, length, get_or, take, replicate, ℤ, pos, negsuc, nat_abs, Some, Ok, sym, refl, ap, ◌∙◌, subst, arith}
+use lib.Ieee.{Float, fits, binary64}
+use lib.Ieee.Bits.{to_bits-lt}
 use Rattle.std.specs.Float.{float_is_finite}
 use Rattle.std.specs.Fmt.{signed_decimal}
 use Rattle.std.proofs.lemmas.List.{length-append, length-replicate, take_at, get_or_at}
@@ -9,6 +9,7 @@ use Rattle.std.proofs.lemmas.Fmt.{length-decimal-le, length_signed_le}
 use Rattle.std.proofs.lemmas.Bool.Decides.{nat_tests}
 use Rattle.numerals.specs.Numbers.{read_number, read_column, write_number}
 use Rattle.numerals.proofs.Laws.{written_numbers_read_back}
+use Rattle.arith.proofs.Patterns.{real_back as pattern_back}
 use Rattle.arith.specs.Reals.{of_pattern, pattern_of}
 use Rattle.sheet.specs.declared.value.Value.{Value}
 use Rattle.sheet.specs.declared.value.Value.TheVariants.{Address, Boolean, Character, Integer, Real}
@@ -17,7 +18,7 @@ use Rattle.columns.specs.ValueLines.{value_of, read_value, write_value, number_o
 use Rattle.columns.specs.ValueLaws.{WrittenValuesReadBack}
 
 -- 20 columns hold z
-width : (z : ℤ) → length (signed_decimal z) ≤ 20 → length (write_number 20 z) ≡ 20
+pub width : (z : ℤ) → length (signed_decimal z) ≤ 20 → length (write_number 20 z) ≡ 20
 width z h = length-append (replicate (20 - length (signed_decimal z)) 32) (signed_decimal z) ∙ ap (λ n. n + length (signed_decimal z)) (length-replicate (20 - length (signed_decimal z)) 32) ∙ omega arith
 
 -- a line of the right form is read by its columns
@@ -35,9 +36,7 @@ back v l n e = formed (letter_of (kind_of v)) (write_number 20 (number_of v)) (n
 real_back : (x : Float) → fits binary64 x ≡ true → float_is_finite x ≡ true → (pattern_of x < 2 ^ 64) × (of_pattern (pattern_of x) ≡ Some x)
 real_back x f h =
     let t : T (fits binary64 x) = subst T (sym f) tt in
-    let e : of_bits binary64 (to_bits binary64 x) ≡ x = of_bits-to_bits binary64 x t in
-    let o : of_pattern (pattern_of x) ≡ cond (float_is_finite x) (Some x) None = ap (λ y. cond (float_is_finite y) (Some y) None) e in
-    (to_bits-lt binary64 x t, o ∙ ap (λ b. cond b (Some x) None) h)
+    (to_bits-lt binary64 x t, pattern_back x f h)
 
 pub written_values_read_back : WrittenValuesReadBack
 written_values_read_back (Address x) h = absurd h

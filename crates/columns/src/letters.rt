@@ -4,7 +4,7 @@ ghost use Rattle.columns.specs.Letters.{kind_letter, optional_letter, line_lette
 use crate::fault::LineFault;
 use sheet::kind::Kind;
 
-// The three kinds of lines of a table's text.
+// The three kinds of lines of a table's text. Here and below the letters are `char` literal cases, the form that docs/DECISIONS.md fixes.
 #[derive(Clone, Copy, Drop)]
 pub enum LineKind {
     Procedure,

@@ -35,6 +35,7 @@ pub(crate) fn number_in(line: &[u8], at: usize, width: usize) -> Result<i128, Li
 }
 
 // Each range has a function of its own: with the conversions inline, the check finds no proof of a whole line.
+// One generic function would promise by `try_from_gives` of its type, which each caller would have to open.
 fn short(n: i128) -> Result<u16, LineFault>
     ensures { result ≡ short n }
 {
@@ -97,6 +98,7 @@ fn read_code(line: &[u8]) -> Result<Line, LineFault>
     }
     let n = number_in(line, 1, 6)?;
     expect(line[7], b' ')?;
+    // Byte by byte, since `<[u8; 4]>::try_from(&line[8..12])` would bring a refusal that cannot come.
     let name = [line[8], line[9], line[10], line[11]];
     let mnemonic = Mnemonic::by_name(name).ok_or(LineFault::Malformed)?;
     let t = optional_kind(char::from(line[12]))?;

@@ -1,4 +1,4 @@
-ghost use Rattle.std.specs.Prelude.{◌≡◌, ◌+◌, ◌^◌, ◌<◌, ◌≤◌, Bool, map, length, None};
+ghost use Rattle.std.specs.Prelude.{◌≡◌, ◌+◌, ◌^◌, ◌<◌, Bool, None, take};
 ghost use Rattle.columns.specs.Scans.{Computes, first_failing, laid};
 ghost use Rattle.columns.specs.Causes.{RefusedForCause};
 ghost use Rattle.columns.specs.Laying.{with_procedure, with_cell, with_code, SameLists};
@@ -11,9 +11,7 @@ use numerals::lines::Lines;
 use sheet::instruction::Instruction;
 use sheet::kind::Kind;
 use sheet::procedure::Procedure;
-
-// How many data cells a procedure has at most.
-const MOST_CELLS: usize = 250;
+use sheet::table::Table;
 
 // How many records of each list a text has.
 #[derive(Clone, Copy, Drop)]
@@ -21,6 +19,26 @@ pub struct Extent {
     pub procedures: usize,
     pub cells: usize,
     pub code: usize,
+}
+
+impl Extent {
+    // The table that the front of each list holds, or all of a list that has fewer records.
+    pub fn table_in<'a>(
+        self,
+        procedures: &'a [Procedure],
+        cells: &'a [Kind],
+        code: &'a [Instruction],
+    ) -> Table<'a>
+        ensures procedures { result.procedures.now ≡ take self.procedures procedures.now }
+        ensures cells { result.cells.now ≡ take self.cells cells.now }
+        ensures code { result.code.now ≡ take self.code code.now }
+    {
+        Table {
+            procedures: procedures.get(..self.procedures).unwrap_or(procedures),
+            cells: cells.get(..self.cells).unwrap_or(cells),
+            code: code.get(..self.code).unwrap_or(code),
+        }
+    }
 }
 
 // What the lines so far hold; `own` counts the cells of the last procedure.
@@ -62,33 +80,36 @@ impl Counts {
         }
         self
     }
-}
 
-// Not a method, here and below: both are handed on as tests of a count and a line.
-fn is_in_order(counts: Counts, line: Result<Line, LineFault>) -> bool
-    ensures { result ≡ in_order counts line }
-{
-    let Extent {
-        procedures,
-        code,
-        ..
-    } = counts.total;
-    match line {
-        Ok(Line::Procedure(heading)) => code == 0 && usize::from(heading.number) == procedures,
-        Ok(Line::Cell(_)) => code == 0 && 0 < procedures && counts.own < MOST_CELLS,
-        Ok(Line::Code(number, _)) => usize::from(number) == code,
-        Err(_) => false,
+    // Whether a line may follow those that are counted.
+    fn is_in_order(self, line: Result<Line, LineFault>) -> bool
+        ensures { result ≡ in_order self line }
+    {
+        let Extent {
+            procedures,
+            code,
+            ..
+        } = self.total;
+        match line {
+            Ok(Line::Procedure(heading)) => code == 0 && usize::from(heading.number) == procedures,
+            Ok(Line::Cell(_)) => code == 0
+                && 0 < procedures
+                && self.own < Procedure::MOST_CELLS as usize,
+            Ok(Line::Code(number, _)) => usize::from(number) == code,
+            Err(_) => false,
+        }
     }
-}
 
-fn has_room(room: Extent, counts: Counts, line: Result<Line, LineFault>) -> bool
-    ensures { result ≡ has_room room counts line }
-{
-    match line {
-        Ok(Line::Procedure(_)) => counts.total.procedures < room.procedures,
-        Ok(Line::Cell(_)) => counts.total.cells < room.cells,
-        Ok(Line::Code(_, _)) => counts.total.code < room.code,
-        Err(_) => true,
+    // Whether the lists have a place for the line's record.
+    fn has_room(self, room: Extent, line: Result<Line, LineFault>) -> bool
+        ensures { result ≡ has_room room self line }
+    {
+        match line {
+            Ok(Line::Procedure(_)) => self.total.procedures < room.procedures,
+            Ok(Line::Cell(_)) => self.total.cells < room.cells,
+            Ok(Line::Code(_, _)) => self.total.code < room.code,
+            Err(_) => true,
+        }
     }
 }
 
@@ -202,10 +223,10 @@ fn check(text: &[u8], room: Extent) -> Result<(), TextFault>
     if let Some(n) = first_fault(text, |_, said| is_well_formed(said)) {
         return Err(TextFault::Malformed(n));
     }
-    if let Some(n) = first_fault(text, is_in_order) {
+    if let Some(n) = first_fault(text, Counts::is_in_order) {
         return Err(TextFault::Misplaced(n));
     }
-    if let Some(n) = first_fault(text, |counts, said| has_room(room, counts, said)) {
+    if let Some(n) = first_fault(text, |counts, said| counts.has_room(room, said)) {
         return Err(TextFault::TooLong(n));
     }
     Ok(())

@@ -7,6 +7,9 @@ use arith::real::{pattern, real_from_pattern};
 use numerals::write::{write_signed, write_unsigned};
 use sheet::value::Value;
 
+// The length of a value's line, its end counted.
+pub const LINE: usize = 22;
+
 // No address is typed in, so its letter is wrong here.
 fn value_of(letter: char, n: i128) -> Result<Value, LineFault>
     ensures { result ≡ value_of letter n }
@@ -30,7 +33,7 @@ fn value_of(letter: char, n: i128) -> Result<Value, LineFault>
 pub fn read_value(line: &[u8]) -> Result<Value, LineFault>
     ensures { result ≡ read_value line.now }
 {
-    if line.len() != 22 {
+    if line.len() != LINE {
         return Err(LineFault::Malformed);
     }
     let n = number_in(line, 1, 20)?;
@@ -52,10 +55,10 @@ fn columns_of(value: Value) -> [u8; 20]
 }
 
 // A value as its line: its letter, 20 columns and the end.
-pub fn write_value(value: Value) -> [u8; 22]
+pub fn write_value(value: Value) -> [u8; LINE]
     ensures { result ≡ write_value value }
 {
-    let mut line = [b'\n'; 22];
+    let mut line = [b'\n'; LINE];
     line[0] = value.kind().letter();
     line[1..21].copy_from_slice(&columns_of(value));
     line

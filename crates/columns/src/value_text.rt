@@ -19,12 +19,10 @@ fn first_fault<F: Fn(usize, Result<Value, LineFault>) -> bool>(
     requires { F.IsAlwaysCallable passes }
     ensures { (test : ℕ → Typed → Bool) → Computes (F.post passes) test → result ≡ first_failing one_more test 0 1 (values_of text.now) }
 {
-    for (before, line) in Lines::new(text).enumerate() {
-        if !passes(before, read_value(line)) {
-            return Some(before + 1);
-        }
-    }
-    None
+    Lines::new(text)
+        .enumerate()
+        .position(|(before, line)| !passes(before, read_value(line)))
+        .map(|before| before + 1)
 }
 
 // Lays the values of a text in order into the list, and says how many there are.
@@ -43,7 +41,7 @@ fn lay_values(text: &[u8], values: &mut [Value]) -> usize
     count
 }
 
-// The first line at fault under the lowest number; as for tables, but with other tests.
+// The first line at fault under the lowest number. Not shared with tables: it would take three closures over the text, and be longer than both.
 fn check(text: &[u8], room: usize) -> Result<(), TextFault>
     ensures { result ≡ value_verdict room text.now }
 {

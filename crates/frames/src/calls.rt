@@ -8,15 +8,14 @@ ghost use Rattle.machine.specs.Steps as step;
 
 use machine::machine::Machine;
 use machine::registers::Registers;
-use reads::cells::{cell_at, mark_in, place_in};
+use reads::cells::{cell_at, mark_in, place_in, put_at};
 use reads::links::base_of;
 use reads::parameters::passed;
-use rules::lookup::{owner, procedure_at};
+use rules::lookup::{natural, procedure_of};
 use sheet::place::CodePlace;
 use sheet::stop::Stop;
 use sheet::table::Table;
 use store::cell::Cell;
-use store::slot::Slot;
 use store::store::Store;
 
 // The mark of a place in the store.
@@ -31,22 +30,23 @@ fn write_marks<S: Store>(store: &mut S, x: u16, link: u16, mp: u16, ep: u16)
     ensures { S.cells store.new ≡ marks x link mp ep (S.cells store.old) }
 {
     let x = u32::from(x);
-    let _ = store.write(Slot(x), place_mark(0));
-    let _ = store.write(Slot(x + 1), place_mark(link));
-    let _ = store.write(Slot(x + 2), place_mark(mp));
-    let _ = store.write(Slot(x + 3), place_mark(ep));
-    let _ = store.write(Slot(x + 4), place_mark(0));
+    put_at(store, x, place_mark(0));
+    put_at(store, x + 1, place_mark(link));
+    put_at(store, x + 2, place_mark(mp));
+    put_at(store, x + 3, place_mark(ep));
+    put_at(store, x + 4, place_mark(0));
 }
 
 pub fn mst<S: Store>(machine: &mut Machine<'_, S>, links: u16, next: CodePlace) -> Result<(), Stop>
     ensures { CarriesOut S.cells result machine.old machine.new (step.mst links next) }
 {
     let link = base_of(machine.store, links, machine.regs.mp)?;
-    let regs = machine.regs;
-    if regs.height.saturating_add(4) > u32::from(regs.ep) {
-        return Err(Stop::StackFull);
-    }
-    write_marks(machine.store, regs.height as u16, link, regs.mp, regs.ep);
+    let Registers { height, mp, ep, .. } = machine.regs;
+    let x = u16::try_from(height)
+        .ok()
+        .filter(|x| u32::from(*x) + 4 <= u32::from(ep))
+        .ok_or(Stop::StackFull)?;
+    write_marks(machine.store, x, link, mp, ep);
     machine.regs.pc = next;
     machine.regs.height += 5;
     Ok(())
@@ -79,19 +79,16 @@ pub fn cup<S: Store>(
 ) -> Result<(), Stop>
     ensures { CarriesOut S.cells result machine.old machine.new (step.cup (contents_of table.entry) parameters target next) }
 {
-    let entry = usize::try_from(target.0).unwrap_or(0);
-    let procedure = procedure_at(table, owner(table, entry));
+    let procedure = procedure_of(table, natural(target.0));
     let Registers { height, last, .. } = machine.regs;
-    let taken = u32::from(parameters) + 5;
-    if taken > height || height - taken > u32::from(last) {
-        return Err(Stop::WrongMark);
-    }
-    let m = (height - taken) as u16;
+    let m = height
+        .checked_sub(u32::from(parameters) + 5)
+        .and_then(|m| u16::try_from(m).ok())
+        .filter(|m| *m <= last)
+        .ok_or(Stop::WrongMark)?;
     marked(machine, m)?;
     passed(table, procedure, m, machine.store)?;
-    let _ = machine
-        .store
-        .write(Slot(u32::from(m) + 4), Cell::Mark(next.0));
+    put_at(machine.store, u32::from(m) + 4, Cell::Mark(next.0));
     machine.regs.pc = target;
     machine.regs.mp = m;
     Ok(())

@@ -7,17 +7,16 @@ ghost use Rattle.machine.specs.Steps as step;
 
 use machine::machine::Machine;
 use machine::registers::Registers;
-use reads::cells::cell_at;
+use reads::cells::{cell_at, put_at};
 use reads::kinds::{local_kinds, parameter_kinds};
 use reads::parameters::passed;
-use rules::lookup::{owner, procedure_at};
+use rules::lookup::procedure_of;
 use sheet::kind::Kind;
 use sheet::place::CodePlace;
 use sheet::procedure::Procedure;
 use sheet::stop::Stop;
 use sheet::table::Table;
 use store::cell::Cell;
-use store::slot::Slot;
 use store::store::Store;
 
 // A working cell becomes a data cell with its value.
@@ -30,16 +29,14 @@ fn settled(cell: Cell) -> Cell
     }
 }
 
-// The working cells from x up become data cells with their values.
+// The working cells from x up become data cells with their values; the kinds only say how many cells there are.
 fn settle<S: Store>(store: &mut S, kinds: &[Kind], x: u32)
     requires room { x + length kinds.now < 2 ^ 32 }
     ensures { S.cells store.new ≡ settle kinds.now x (S.cells store.old) }
 {
-    // by number, since the kinds only say how many cells there are
-    for i in 0..kinds.len() {
-        let place = x + i as u32;
+    for place in x..x + kinds.len() as u32 {
         let cell = settled(cell_at(store, place));
-        let _ = store.write(Slot(place), cell);
+        put_at(store, place, cell);
     }
 }
 
@@ -48,8 +45,8 @@ fn clear<S: Store>(store: &mut S, kinds: &[Kind], x: u32)
     requires room { x + length kinds.now < 2 ^ 32 }
     ensures { S.cells store.new ≡ clear kinds.now x (S.cells store.old) }
 {
-    for (i, kind) in kinds.iter().enumerate() {
-        let _ = store.write(Slot(x + i as u32), Cell::Blank(*kind));
+    for (kind, place) in kinds.iter().zip(x..) {
+        put_at(store, place, Cell::Blank(*kind));
     }
 }
 
@@ -66,7 +63,7 @@ fn open<S: Store>(store: &mut S, table: Table<'_>, procedure: Procedure, m: u16)
         x + 5 + parameters.len() as u32,
     );
     if let Some(kind) = procedure.result {
-        let _ = store.write(Slot(x), Cell::Blank(kind));
+        put_at(store, x, Cell::Blank(kind));
     }
 }
 
@@ -81,17 +78,17 @@ pub fn ent<S: Store>(
 ) -> Result<(), Stop>
     ensures { CarriesOut S.cells result machine.old machine.new (step.ent (contents_of table.entry) n room size next) }
 {
-    let procedure = procedure_at(table, owner(table, n));
+    let procedure = procedure_of(table, n);
     let Registers { mp, last, .. } = machine.regs;
     passed(table, procedure, mp, machine.store)?;
     let height = u32::from(mp) + u32::from(size);
-    let ep = height.saturating_sub(1) + u32::from(room);
-    if ep > u32::from(last) {
-        return Err(Stop::StoreFull);
-    }
+    let ep = u16::try_from(height.saturating_sub(1) + u32::from(room))
+        .ok()
+        .filter(|ep| *ep <= last)
+        .ok_or(Stop::StoreFull)?;
     open(machine.store, table, procedure, mp);
     machine.regs.pc = next;
     machine.regs.height = height;
-    machine.regs.ep = ep as u16;
+    machine.regs.ep = ep;
     Ok(())
 }

@@ -1,10 +1,10 @@
 -- A line that means a value is that value's line.
-use Rattle.std.proofs.Common.{◌≡◌, ℕ, zero, suc, ◌+◌, ◌*◌, ◌/◌, ◌^◌, ◌<◌, Bool, true, false, cond, not, ◌&&◌, T, eqb, ltb, List, [], ◌∷◌, ◌++◌, length, get_or, take, drop, ℤ, pos, negsuc, nat_abs, Some, None, Option, sym, refl, ap, ◌∙◌, subst, arith, take-add}
+use Rattle.std.proofs.Common.{◌≡◌, ℕ, zero, suc, ◌+◌, ◌*◌, ◌^◌, ◌<◌, Bool, true, false, cond, ◌&&◌, eqb, ltb, List, [], ◌∷◌, ◌++◌, length, get_or, take, drop, ℤ, pos, negsuc, nat_abs, Some, None, Option, sym, refl, ap, ◌∙◌, subst, arith, take-add}
 use lib.Signed.{mag}
-use lib.Ieee.{Float, nan, inf, fin, binary64, is_nan, of_bits}
+use lib.Ieee.{binary64, of_bits}
 use lib.Ieee.Bits.{to_bits-of_bits}
 use Rattle.std.specs.Float.{float_is_finite}
-use Rattle.std.proofs.lemmas.List.{length-drop, length-take-le, drop_more, drop_all, take-append-drop, take_all}
+use Rattle.std.proofs.lemmas.List.{length-drop, length-take-le, drop_more, drop_all, take-append-drop}
 use Rattle.std.proofs.lemmas.Bool.Decides.{nat_tests}
 use Rattle.numerals.specs.Numbers.{read_number, read_column, write_number}
 use Rattle.numerals.proofs.Laws.{read_numbers_write_back}
@@ -13,6 +13,7 @@ use Rattle.sheet.specs.declared.value.Value.TheVariants.{Address, Boolean, Chara
 use Rattle.sheet.specs.Kinds.{kind_of, letter_of, is_value}
 use Rattle.columns.specs.ValueLines.{write_value, number_of}
 use Rattle.host.specs.Texts.{truth, letter, any_real, by_letter, numbered, no_value, written_value, written_values, lines_of, AllValues}
+use Rattle.arith.proofs.Patterns.{number_if_finite}
 
 -- v is written with this letter and this number
 abbrev Told : ℕ → ℤ → Value → Type 0
@@ -56,12 +57,6 @@ byte_tells n false e h = none_tells 99 (pos n) h
 letter_tells : (z : ℤ) → Tells 99 z (letter z)
 letter_tells (pos n) = byte_tells n (ltb n 256) refl
 letter_tells (negsuc n) = none_tells 99 (negsuc n)
-
-number_if_finite : (x : Float) → float_is_finite x ≡ true → T (not (is_nan x))
-unfolding float_is_finite is_nan
-number_if_finite nan h = let e : false ≡ true = h in grind (arith, nat_tests)
-number_if_finite (inf s) h = tt
-number_if_finite (fin s m e) h = tt
 
 bits_tell : (n : ℕ) (b : Bool) → ltb n (2 ^ 64) ≡ b → Tells 114 (pos n) (cond b (Real (of_bits binary64 n)) no_value)
 bits_tell n true e h =
@@ -128,7 +123,3 @@ exact_lines (suc n) out (h, hs) =
     ap (λ k. take k out) m ∙ take-add 22 (22 * n) out
     ∙ ap (λ xs. take 22 out ++ xs) (exact_lines n (drop 22 out) hs)
     ∙ ap (λ l. l ++ lines_of (written_values n (drop 22 out))) (sym (exact_line (take 22 out) h))
-
--- past the end there is nothing
-pub written_whole : (out : List ℕ) (n : ℕ) → length out / 22 < n → out ≡ take (22 * n) out
-written_whole out n h = sym (take_all (22 * n) out (omega arith))

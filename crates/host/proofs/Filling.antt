@@ -1,10 +1,10 @@
 -- Lines laid behind each other.
-use Rattle.std.proofs.Common.{◌≡◌, ℕ, zero, suc, ◌+◌, ◌-◌, ◌*◌, ◌/◌, ◌<◌, ◌≤◌, false, cond, eqb, List, [], ◌∷◌, ◌++◌, length, take, drop, Ok, Err, sym, refl, ap, ◌∙◌, add-one, arith}
+use Rattle.std.proofs.Common.{◌≡◌, ℕ, zero, suc, ◌+◌, ◌-◌, ◌*◌, ◌/◌, ◌<◌, ◌≤◌, false, cond, eqb, List, [], ◌∷◌, ◌++◌, length, take, drop, sym, refl, ap, ◌∙◌, add-one, arith}
+use borrow.Rule.Slice.PartMut.{put_mid, Post-is}
 use Rattle.std.proofs.lemmas.List.{length-append, length-drop, length-take-le, take_at, take-append-le, drop-append-le, take-append-drop, nil_from_length}
 use Rattle.std.proofs.lemmas.Bool.Decides.{nat_tests}
-use Rattle.sheet.specs.declared.stop.Stop.TheVariants.{NoRoom}
 use Rattle.sheet.specs.declared.value.Value.{Value}
-use Rattle.host.specs.Hosts.{Meaning, written, put_answer}
+use Rattle.host.specs.Hosts.{Meaning, written}
 use Rattle.host.specs.Meanings.{lines_mean}
 use Rattle.host.specs.Texts.{written_value, written_values}
 
@@ -49,20 +49,23 @@ written_more out l n x h k e =
     ∙ ap (λ v. written_values n (take (22 * n) out) ++ (v ∷ [])) e
     ∙ ap (λ vs. vs ++ (x ∷ [])) (sym (front_only n (take (22 * n) out) (drop (22 * n) out) t) ∙ ap (written_values n) (take-append-drop (22 * n) out))
 
-pub room_left : (len n : ℕ) → n < len / 22 → (22 * n + 22 ≤ len) × (eqb ((len - 22 * n) / 22) 0 ≡ false) × ((len - 22 * (n + 1)) / 22 ≡ (len - 22 * n) / 22 - 1)
+room_left : (len n : ℕ) → 22 * n + 22 ≤ len → (eqb ((len - 22 * n) / 22) 0 ≡ false) × ((len - 22 * (n + 1)) / 22 ≡ (len - 22 * n) / 22 - 1)
 room_left len n h =
     let p : 0 < (len - 22 * n) / 22 = omega arith in
-    (omega arith, grind (arith, nat_tests, p), omega arith)
+    (grind (arith, nat_tests, p), omega arith)
 
-pub line_answers : (len n : ℕ) → n < len / 22 → put_answer ((len - 22 * n) / 22) ≡ Ok tt
-line_answers len n h = ap (λ b. cond b (Err NoRoom) (Ok tt)) (room_left len n h).1
-
-pub put_line : (vs : List Value) (out l : List ℕ) (n : ℕ) (x : Value) → n < length out / 22 → length l ≡ 22 → written_value l ≡ x
+put_line : (vs : List Value) (out l : List ℕ) (n : ℕ) (x : Value) → 22 * n + 22 ≤ length out → length l ≡ 22 → written_value l ≡ x
     → lines_mean vs (n + 1) (Laid out (22 * n) l) ≡ written x (lines_mean vs n out)
 put_line vs out l n x h k e =
     let r = room_left (length out) n h in
-    let room : (length (Laid out (22 * n) l) - 22 * (n + 1)) / 22 ≡ (length out - 22 * n) / 22 - 1 = ap (λ m. (m - 22 * (n + 1)) / 22) (length_laid out l (22 * n) r.0 k) ∙ r.2 in
+    let room : (length (Laid out (22 * n) l) - 22 * (n + 1)) / 22 ≡ (length out - 22 * n) / 22 - 1 = ap (λ m. (m - 22 * (n + 1)) / 22) (length_laid out l (22 * n) h k) ∙ r.1 in
     let more : Meaning = record { waiting = vs; written = written_values n out ++ (x ∷ []); room = (length out - 22 * n) / 22 - 1 } in
-    ap (λ ws. record { waiting = vs; written = ws; room = (length (Laid out (22 * n) l) - 22 * (n + 1)) / 22 }) (written_more out l n x r.0 k e)
+    ap (λ ws. record { waiting = vs; written = ws; room = (length (Laid out (22 * n) l) - 22 * (n + 1)) / 22 }) (written_more out l n x h k e)
     ∙ ap (λ m. record { waiting = vs; written = written_values n out ++ (x ∷ []); room = m }) room
-    ∙ sym (ap (λ b. cond b (lines_mean vs n out) more) r.1)
+    ∙ sym (ap (λ b. cond b (lines_mean vs n out) more) r.0)
+
+-- the same of a line copied between the bytes before it and behind it
+pub copy_line : (vs : List Value) (out l : List ℕ) (n : ℕ) (x : Value) → 22 * n + 22 ≤ length out → length l ≡ 22 → written_value l ≡ x
+    → lines_mean vs (n + 1) (put_mid (22 * n) (22 * n + 22 - 22 * n) out l) ≡ written x (lines_mean vs n out)
+copy_line vs out l n x h k e =
+    ap (λ r. lines_mean vs (n + 1) (take (22 * n) out ++ (l ++ r))) (Post-is (22 * n) (22 * n + 22) out (omega arith)) ∙ put_line vs out l n x h k e

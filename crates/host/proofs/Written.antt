@@ -1,10 +1,10 @@
 -- The line of a value means the value.
-use Rattle.std.proofs.Common.{◌≡◌, ℕ, suc, ◌+◌, ◌-◌, ◌^◌, ◌<◌, ◌≤◌, Bool, true, false, T, List, [], ◌∷◌, ◌++◌, length, get_or, take, replicate, ℤ, pos, negsuc, nat_abs, Some, sym, refl, ap, ◌∙◌, arith}
+use Rattle.std.proofs.Common.{◌≡◌, ℕ, suc, ◌+◌, ◌^◌, ◌<◌, ◌≤◌, Bool, true, false, T, List, [], ◌∷◌, ◌++◌, length, get_or, take, ℤ, pos, negsuc, nat_abs, Some, sym, refl, ap, ◌∙◌, arith}
 use lib.Signed.{mag}
 use lib.Ieee.{Float, fits, binary64, to_bits, of_bits}
 use lib.Ieee.Bits.{of_bits-to_bits, to_bits-lt}
 use Rattle.std.specs.Fmt.{signed_decimal}
-use Rattle.std.proofs.lemmas.List.{length-append, length-replicate, take_at, get_or_at}
+use Rattle.std.proofs.lemmas.List.{length-append, take_at, get_or_at}
 use Rattle.std.proofs.lemmas.Fmt.{length-decimal-le, length_signed_le}
 use Rattle.std.proofs.lemmas.Bool.Decides.{nat_tests}
 use Rattle.numerals.specs.Numbers.{read_number, read_column, write_number}
@@ -14,11 +14,9 @@ use Rattle.sheet.specs.declared.value.Value.TheVariants.{Address, Boolean, Chara
 use Rattle.sheet.specs.Kinds.{kind_of, letter_of}
 use Rattle.columns.specs.ValueLines.{write_value, number_of}
 use Rattle.host.specs.Texts.{by_letter, written_value}
+use Rattle.columns.proofs.Values.{width}
 
 -- 20 columns hold z
-width : (z : ℤ) → length (signed_decimal z) ≤ 20 → length (write_number 20 z) ≡ 20
-width z h = length-append (replicate (20 - length (signed_decimal z)) 32) (signed_decimal z) ∙ ap (λ n. n + length (signed_decimal z)) (length-replicate (20 - length (signed_decimal z)) 32) ∙ omega arith
-
 -- a line of the right form is read by its columns
 formed : (a : ℕ) (ys : List ℕ) (z : ℤ) → length ys ≡ 20 → read_number ys ≡ Some z → written_value (a ∷ (ys ++ (10 ∷ []))) ≡ by_letter a z
 formed a ys z k e =

@@ -5,11 +5,10 @@
 --   text_written: the bytes of the lines written
 --   begun, lines_begun: what a host means that is made over a text and n free bytes, or the fault of the text
 --   meaning_made: what the host means that was made, if one was
---   place_after: the place behind n where the value was taken or written, else n
-use Rattle.std.specs.Prelude.{ℕ, ◌+◌, ◌-◌, ◌*◌, ◌/◌, List, [], length, take, Ok, Err, Result}
-use Rattle.sheet.specs.declared.stop.Stop.{Stop}
+use Rattle.std.specs.Prelude.{ℕ, ◌-◌, ◌*◌, ◌/◌, List, [], length, take, Ok, Err, Result}
 use Rattle.sheet.specs.declared.value.Value.{Value}
 use Rattle.columns.specs.declared.fault.TextFault.{TextFault}
+use Rattle.pile.specs.Piles.{depth, places_of}
 use Rattle.host.specs.declared.lists.Lists.{Lists}
 use Rattle.host.specs.declared.lines.Lines.{Lines}
 use Rattle.host.specs.Hosts.{Meaning}
@@ -19,7 +18,7 @@ abbrev pub lists_mean : List Value → ℕ → List Value → Meaning
 lists_mean left done output = record { waiting = left; written = take done output; room = length output - done }
 
 abbrev pub meaning_of_lists : Lists → Meaning
-meaning_of_lists h = lists_mean h.input.now h.done h.output.now
+meaning_of_lists h = lists_mean h.input.now (depth h.output) (places_of h.output)
 
 abbrev pub lines_mean : List Value → ℕ → List ℕ → Meaning
 lines_mean left done output = record { waiting = left; written = written_values done output; room = (length output - 22 * done) / 22 }
@@ -40,8 +39,3 @@ lines_begun text n = begun (checked_values text) n
 abbrev pub meaning_made : Result Lines TextFault → Result Meaning TextFault
 meaning_made (Ok h) = Ok (meaning_of_lines h)
 meaning_made (Err f) = Err f
-
--- ---- what a call inside a host answers
-abbrev pub place_after : {A : Type 0} → Result A Stop → ℕ → ℕ
-place_after (Ok x) n = n + 1
-place_after (Err e) n = n

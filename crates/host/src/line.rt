@@ -2,12 +2,12 @@ ghost use Rattle.std.specs.Prelude.{◌≡◌};
 ghost use Rattle.columns.specs.ValueLines.{write_value};
 ghost use Rattle.host.specs.Texts.{written_value};
 
-use columns::value_line::write_value;
+use columns::value_line::{LINE, write_value};
 use sheet::value::Value;
 
 // The line of a value that is written.
 // Five arms that do the same: a number's range, by which its line reads back as it, is known to the check only where its kind is.
-pub(crate) fn line_of(x: Value) -> [u8; 22]
+pub(crate) fn line_of(x: Value) -> [u8; LINE]
     ensures value { result ≡ write_value x }
     ensures back { written_value result ≡ x }
 {

@@ -1,34 +1,32 @@
-ghost use Rattle.std.specs.Prelude.{◌≡◌, ◌+◌, ◌-◌, ◌*◌, ◌/◌, ◌<◌, ◌≤◌, List, ◌++◌, length, take, drop, IfOk, OnOk};
-ghost use Rattle.sheet.specs.declared.value.Value.{Value};
+ghost use Rattle.std.specs.Prelude.{◌≡◌, ◌*◌, ◌≤◌, length, IfOk};
 ghost use Rattle.host.specs.Hosts.{next_value, taken, put_answer, written};
-ghost use Rattle.host.specs.Meanings.{lines_mean, meaning_of_lines, meaning_made, lines_begun, text_written, place_after};
-ghost use Rattle.host.specs.Texts.{verdict, written_values, lines_of, AllValues};
+ghost use Rattle.host.specs.Texts.{verdict, lines_of, AllValues};
 
 use crate::host::Host;
 use crate::kinds::is_of;
 use crate::line::line_of;
 use crate::scan::first_value;
 use columns::fault::TextFault;
+use columns::value_line::LINE;
 use columns::value_text::read_values;
 use sheet::kind::Kind;
 use sheet::stop::Stop;
 use sheet::value::Value;
-
-// A letter, 20 columns and the end.
-const LINE: usize = 22;
 
 // A host over a lent text of value lines and lent bytes for the lines written.
 #[derive(Drop)]
 pub struct Lines<'a> {
     input: &'a [u8], // what still waits
     output: &'a mut [u8],
-    done: usize, // how many are written: the list is lent whole, so their count stands beside it
+    done: usize, // how many lines are written; no pile of bytes, since each is 22 of them
+    ghost ok: { 22 * done ≤ length output.now },
 }
 
-// Refuses a text with the fault of its first line at fault; with no list lent, none is too short.
+// Refuses a text with the fault of its first line at fault.
 fn check(input: &[u8]) -> Result<(), TextFault>
     ensures { result ≡ verdict input.now }
 {
+    // The scans of a text stand in `columns` alone; no list is lent them here, so one too short for the values is no fault.
     match read_values(input, &mut []) {
         Ok(_) | Err(TextFault::TooLong(_)) => Ok(()),
         Err(fault) => Err(fault),
@@ -36,6 +34,9 @@ fn check(input: &[u8]) -> Result<(), TextFault>
 }
 
 impl<'a> Lines<'a> {
+    ghost use Rattle.host.specs.Meanings.{meaning_of_lines, meaning_made, lines_begun, text_written};
+
+    // The clause `name`, here and at each host's take and put: which list is lent is said of its own field, and the trait has none.
     pub fn over(input: &'a [u8], output: &'a mut [u8]) -> Result<Lines<'a>, TextFault>
         ensures name { IfOk result (λ h. h.output.ghost_name ≡ output.entry.ghost_name) }
         ensures held { meaning_made result ≡ lines_begun input.now (length output.old) }
@@ -49,48 +50,18 @@ impl<'a> Lines<'a> {
     }
 
     // The lines written so far: where every value put was one, exactly the lines of these values.
+    #[tactic(auto, using(crate::proofs::Exact::exact_lines))]
     pub fn text(&self) -> &[u8]
         ensures value { result.now ≡ text_written self.now }
         ensures lines { AllValues (meaning_of_lines self.now).written → result.now ≡ lines_of (meaning_of_lines self.now).written }
     {
-        part(self.output, self.done)
-    }
-}
-
-// By division, since `LINE * done` may pass 64 bits.
-fn part(output: &[u8], done: usize) -> &[u8]
-    ensures value { result.now ≡ take (22 * done) output.now }
-    ensures lines { AllValues (written_values done output.now) → result.now ≡ lines_of (written_values done output.now) }
-{
-    if done <= output.len() / LINE {
-        &output[..LINE * done]
-    } else {
-        output
-    }
-}
-
-fn lay_line(output: &mut [u8], at: usize, line: [u8; 22])
-    requires { at + 22 ≤ length output.old }
-    ensures { output.new ≡ take at output.old ++ (line ++ drop (at + 22) output.old) }
-{
-    output[at..at + LINE].copy_from_slice(&line);
-}
-
-// Writes a value's line behind those written, where there is room.
-fn lay(output: &mut [u8], done: usize, x: Value) -> Result<(), Stop>
-    ensures value { result ≡ put_answer ((length output.old - 22 * done) / 22) }
-    ensures after { (vs : List Value) → lines_mean vs (place_after result done) output.new ≡ written x (lines_mean vs done output.old) }
-    ensures within { OnOk result (done < length output.old) }
-{
-    if done < output.len() / LINE {
-        lay_line(output, LINE * done, line_of(x));
-        Ok(())
-    } else {
-        Err(Stop::NoRoom)
+        &self.output[..LINE * self.done]
     }
 }
 
 impl Host for Lines<'_> {
+    ghost use Rattle.host.specs.Meanings.{meaning_of_lines};
+
     ghost means = { meaning_of_lines };
 
     fn take(&mut self, kind: Kind) -> Result<Value, Stop>
@@ -108,12 +79,18 @@ impl Host for Lines<'_> {
         Ok(found.value)
     }
 
+    #[tactic(auto, using(crate::proofs::Filling::copy_line))]
     fn put(&mut self, x: Value) -> Result<(), Stop>
         ensures name { self.new.output.ghost_name ≡ self.old.output.ghost_name }
         ensures value { result ≡ put_answer (meaning_of_lines self.old).room }
         ensures after { meaning_of_lines self.new ≡ written x (meaning_of_lines self.old) }
     {
-        lay(self.output, self.done, x)?;
+        let end = LINE * self.done;
+        if self.output.len() - end < LINE {
+            return Err(Stop::NoRoom);
+        }
+        // By index, since `get_mut` does not tell what the bytes end as.
+        self.output[end..end + LINE].copy_from_slice(&line_of(x));
         self.done += 1;
         Ok(())
     }

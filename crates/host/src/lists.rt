@@ -1,9 +1,10 @@
-ghost use Rattle.std.specs.Prelude.{◌≡◌, [], length, take};
+ghost use Rattle.std.specs.Prelude.{◌≡◌, [], length};
 ghost use Rattle.host.specs.Hosts.{next_value, taken, put_answer, written};
 ghost use Rattle.host.specs.Meanings.{meaning_of_lists};
 
 use crate::host::Host;
 use crate::kinds::is_of;
+use pile::Pile;
 use sheet::kind::Kind;
 use sheet::stop::Stop;
 use sheet::value::Value;
@@ -12,19 +13,17 @@ use sheet::value::Value;
 #[derive(Drop)]
 pub struct Lists<'a> {
     input: &'a [Value], // what still waits
-    output: &'a mut [Value],
-    done: usize, // how many are written: the list is lent whole, so their count stands beside it
+    output: Pile<'a, Value>,
 }
 
 impl<'a> Lists<'a> {
     pub fn over(input: &'a [Value], output: &'a mut [Value]) -> Lists<'a>
-        ensures name { result.output.ghost_name ≡ output.entry.ghost_name }
+        ensures name { result.output.places.ghost_name ≡ output.entry.ghost_name }
         ensures held { meaning_of_lists result ≡ record { waiting = input.now; written = []; room = length output.old } }
     {
         Lists {
             input,
-            output,
-            done: 0,
+            output: Pile::over(output),
         }
     }
 
@@ -32,21 +31,15 @@ impl<'a> Lists<'a> {
     pub fn so_far(&self) -> &[Value]
         ensures { result.now ≡ (meaning_of_lists self.now).written }
     {
-        front(self.output, self.done)
+        self.output.as_slice()
     }
-}
-
-fn front(list: &[Value], n: usize) -> &[Value]
-    ensures { result.now ≡ take n list.now }
-{
-    list.get(..n).unwrap_or(list)
 }
 
 impl Host for Lists<'_> {
     ghost means = { meaning_of_lists };
 
     fn take(&mut self, kind: Kind) -> Result<Value, Stop>
-        ensures name { self.new.output.ghost_name ≡ self.old.output.ghost_name }
+        ensures name { self.new.output.places.ghost_name ≡ self.old.output.places.ghost_name }
         ensures value { result ≡ next_value kind (meaning_of_lists self.old).waiting }
         ensures after { meaning_of_lists self.new ≡ taken kind (meaning_of_lists self.old) }
     {
@@ -60,18 +53,11 @@ impl Host for Lists<'_> {
         Ok(*x)
     }
 
-    #[tactic(auto, using(crate::proofs::Steps::puts))]
     fn put(&mut self, x: Value) -> Result<(), Stop>
-        ensures name { self.new.output.ghost_name ≡ self.old.output.ghost_name }
+        ensures name { self.new.output.places.ghost_name ≡ self.old.output.places.ghost_name }
         ensures value { result ≡ put_answer (meaning_of_lists self.old).room }
         ensures after { meaning_of_lists self.new ≡ written x (meaning_of_lists self.old) }
     {
-        if self.done >= self.output.len() {
-            return Err(Stop::NoRoom);
-        }
-        // By index, since a proof knows nothing of what a slice holds after `get_mut`.
-        self.output[self.done] = x;
-        self.done += 1;
-        Ok(())
+        self.output.push(x).map_err(|_| Stop::NoRoom)
     }
 }

@@ -3,14 +3,13 @@ ghost use Rattle.machine.specs.Leaves.{load, store as stores};
 ghost use Rattle.machine.specs.Machine.{CarriesOut};
 ghost use Rattle.machine.specs.Steps as step;
 
-use crate::stack::push;
+use crate::stack::{dropped, push};
 use machine::machine::Machine;
-use reads::cells::{cell_at, held_in, reached, stacked_at, typed_at, writable};
+use reads::cells::{cell_at, held_in, put_at, reached, stacked_at, typed_at, writable};
 use sheet::kind::Kind;
 use sheet::place::{CodePlace, StorePlace};
 use sheet::stop::Stop;
 use store::cell::Cell;
-use store::slot::Slot;
 use store::store::Store;
 
 // The cell at x is pushed.
@@ -47,9 +46,8 @@ pub(crate) fn store_at<S: Store>(
         kind,
         cell_at(machine.store, x),
     )?;
-    let _ = machine.store.write(Slot(x), Cell::Data(value));
-    machine.regs.pc = next;
-    machine.regs.height = machine.regs.height.saturating_sub(1);
+    put_at(machine.store, x, Cell::Data(value));
+    machine.regs = dropped(machine.regs, 1, next);
     Ok(())
 }
 
@@ -75,6 +73,7 @@ pub fn sro<S: Store>(
     store_at(machine, kind, u32::from(offset), next)
 }
 
+// By itself, as `sto`: `load` and `store_at` with causes and a count would take seven parameters for two lines each.
 pub fn ind<S: Store>(machine: &mut Machine<'_, S>, kind: Kind, next: CodePlace) -> Result<(), Stop>
     ensures { CarriesOut S.cells result machine.old machine.new (step.ind kind next) }
 {
@@ -101,8 +100,7 @@ pub fn sto<S: Store>(machine: &mut Machine<'_, S>, kind: Kind, next: CodePlace) 
         kind,
         cell_at(machine.store, place),
     )?;
-    let _ = machine.store.write(Slot(place), Cell::Data(value));
-    machine.regs.pc = next;
-    machine.regs.height = machine.regs.height.saturating_sub(2);
+    put_at(machine.store, place, Cell::Data(value));
+    machine.regs = dropped(machine.regs, 2, next);
     Ok(())
 }

@@ -1,22 +1,33 @@
 // The instructions that work on the stack alone, the jumps, and those that speak with the host.
-ghost use Rattle.std.specs.Prelude.{◌≡◌, MatchResult};
+ghost use Rattle.std.specs.Prelude.{◌≡◌, ◌-◌, MatchResult};
 ghost use Rattle.host.specs.Hosts.{next_value, taken};
 ghost use Rattle.machine.specs.Machine.{CarriesOut, CarriesOutWith};
-ghost use Rattle.machine.specs.States.{pushed, dropped};
+ghost use Rattle.machine.specs.States.{regs_at, pushed, dropped};
 ghost use Rattle.machine.specs.Steps as step;
 
 use arith::operation::{binary, unary};
 use host::host::Host;
 use machine::machine::Machine;
-use reads::cells::{stacked_at, typed_at};
+use machine::registers::Registers;
+use reads::cells::{put_at, stacked_at, typed_at};
 use sheet::kind::Kind;
 use sheet::operation::{Binary, Unary};
 use sheet::place::CodePlace;
 use sheet::stop::Stop;
 use sheet::value::Value;
 use store::cell::Cell;
-use store::slot::Slot;
 use store::store::Store;
+
+// The registers once PC is `next` and the `count` topmost cells are taken.
+pub(crate) fn dropped(regs: Registers, count: u32, next: CodePlace) -> Registers
+    ensures { result ≡ regs_at next (regs.height - count) regs.mp regs.ep regs.last }
+{
+    Registers {
+        pc: next,
+        height: regs.height.saturating_sub(count),
+        ..regs
+    }
+}
 
 // PC becomes `next`, the `count` topmost cells are taken, and x is pushed, unless SP would pass EP.
 pub(crate) fn push<S: Store>(
@@ -27,14 +38,13 @@ pub(crate) fn push<S: Store>(
 ) -> Result<(), Stop>
     ensures { CarriesOut S.cells result machine.old machine.new (λ s. pushed x (dropped next count s)) }
 {
-    let top = machine.regs.height.saturating_sub(count);
-    if top > u32::from(machine.regs.ep) {
+    let mut regs = dropped(machine.regs, count, next);
+    if regs.height > u32::from(regs.ep) {
         return Err(Stop::StackFull);
     }
-    // past the end of the store a write changes nothing, here and below
-    let _ = machine.store.write(Slot(top), Cell::Working(x));
-    machine.regs.pc = next;
-    machine.regs.height = top + 1;
+    put_at(machine.store, regs.height, Cell::Working(x));
+    regs.height += 1;
+    machine.regs = regs;
     Ok(())
 }
 
@@ -87,8 +97,8 @@ pub fn fjp<S: Store>(
     ensures { CarriesOut S.cells result machine.old machine.new (step.fjp target next) }
 {
     let top = stacked_at(machine.store, machine.regs.height, 0)?;
-    machine.regs.pc = if bool::try_from(top)? { next } else { target };
-    machine.regs.height = machine.regs.height.saturating_sub(1);
+    let target = if bool::try_from(top)? { next } else { target };
+    machine.regs = dropped(machine.regs, 1, target);
     Ok(())
 }
 
@@ -125,7 +135,6 @@ pub fn output<S: Store, H: Host>(
 {
     let x = typed_at(machine.store, kind, machine.regs.height, 0)?;
     host.put(x)?;
-    machine.regs.pc = next;
-    machine.regs.height = machine.regs.height.saturating_sub(1);
+    machine.regs = dropped(machine.regs, 1, next);
     Ok(())
 }

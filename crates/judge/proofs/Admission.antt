@@ -1,29 +1,23 @@
 -- What admitting means, from the path engine and the checks.
-use Rattle.std.proofs.Common.{◌≡◌, ℕ, zero, suc, ◌+◌, ◌-◌, ◌<◌, ◌≤◌, Bool, true, false, cond, eqb, ltb, leb, List, [], ◌∷◌, map, length, get_or, Some, None, Ok, Err, Option, Result, refl, ap, ◌∙◌, subst, inl, inr, arith}
+use Rattle.std.proofs.Common.{◌≡◌, ℕ, zero, suc, ◌-◌, ◌<◌, ◌≤◌, Bool, true, false, cond, eqb, leb, List, [], ◌∷◌, map, length, Some, None, Option, refl, ap, ◌∙◌, subst, inl, inr, arith}
 use Rattle.std.specs.List.{slice_get}
 use Rattle.std.specs.Option.{option_or}
-use Rattle.std.proofs.lemmas.Bool.{le-leb, leb-true, eqb-true, and_parts}
-use Rattle.sheet.specs.declared.instruction.Instruction.{Instruction}
+use Rattle.std.proofs.lemmas.Bool.{le-leb, leb-true, eqb-true}
+use Rattle.std.proofs.lemmas.Option.{get_or_from_slice_get}
 use Rattle.sheet.specs.declared.procedure.Procedure.{Procedure}
 use Rattle.sheet.specs.Tables.{Contents}
-use Rattle.rules.specs.declared.effects.Effect.{Effect}
-use Rattle.rules.specs.declared.effects.Gives.{Gives}
-use Rattle.rules.specs.declared.effects.Way.{Way}
-use Rattle.rules.specs.declared.effects.Way.TheVariants.{Halt, Next, Jump, Fork}
 use Rattle.rules.specs.declared.fault.TableFault.TheVariants.{TooFewPlaces}
-use Rattle.rules.specs.EffectLaws.{SoundWay}
-use Rattle.rules.specs.Effects.{effect_of}
-use Rattle.rules.specs.Lookups.{procedure_at, no_procedure, owner, room_of, room_at}
+use Rattle.rules.specs.Lookups.{procedure_at, no_procedure, room_at}
 use Rattle.rules.specs.Operands.{operand_fault, first_fault}
 use Rattle.rules.specs.ProcedureLaws.{TableRule}
 use Rattle.rules.specs.Procedures.{table_fault}
-use Rattle.rules.proofs.EffectLaws.{effects_are_sound}
+use Rattle.rules.proofs.EffectLaws.{neither_left, neither_right}
 use Rattle.rules.proofs.OperandLaws.{operands_are_checked}
 use Rattle.rules.proofs.ProcedureLaws.{table_is_checked}
 use Rattle.paths.specs.Admitted.{Apart, Fits, Admits, Suits}
 use Rattle.paths.specs.Admitting.{Fault, entry_at, entry_is, admit}
 use Rattle.paths.specs.Exact.{agree}
-use Rattle.paths.specs.Flows.{Hand, hands_on, keep, lower, Lawful}
+use Rattle.paths.specs.Flows.{Hand, keep, lower, Lawful}
 use Rattle.paths.specs.Lists.{In, All, Distinct}
 use Rattle.paths.specs.Rows.{Rows, row_at, Held, Local}
 use Rattle.paths.proofs.Admitting.{entries_apart, admit_exact}
@@ -31,24 +25,18 @@ use Rattle.paths.proofs.Exact.{strict_law}
 use Rattle.paths.proofs.Lists.{all_in, all_map}
 use Rattle.paths.proofs.Passes.{judge_passes}
 use Rattle.rows.specs.declared.entry.Entry.TheVariants.{Value}
-use Rattle.transfer.specs.declared.breach.Breach.{Breach}
-use Rattle.transfer.specs.declared.breach.Breach.TheVariants.{WrongStack, StackTooHigh, PastTheEnd}
-use Rattle.transfer.specs.Stacks.{Stack, cells_on, less, more, parameters_down}
-use Rattle.transfer.specs.Transfer.{handed, has_next, stays, passed_on, goes, goes_from, transfer}
+use Rattle.transfer.specs.Stacks.{Stack, cells_on, parameters_down}
+use Rattle.transfer.specs.Transfer.{transfer}
+use Rattle.transfer.proofs.Laws.{transfer_fits}
 use Rattle.judge.specs.declared.flaw.Flaw.{Flaw}
 use Rattle.judge.specs.declared.flaw.Flaw.TheVariants.{Differs, TooHigh}
 use Rattle.judge.specs.Admission.{rows_fault, named, admitted}
 use Rattle.judge.specs.AdmissionLaws.{Begins, LocallyRight, AdmitAcceptsExactlyLocalRows, JudgeLeavesRowsThatAdmitAccepts}
 use Rattle.judge.specs.Flow.{same_stack, entry_of, as_step, step, stacks, fit}
-use Rattle.judge.proofs.Inside.{inside, stacks_tell}
-use Rattle.judge.proofs.Laws.{first_none, unchecked, accepted}
+use Rattle.judge.proofs.Inside.{stepped, each_all, inside, stacks_tell}
+use Rattle.judge.proofs.Laws.{unchecked, accepted}
 
 -- ---- procedures begin apart
-nth_getD : (Ps : List Procedure) (n : ℕ) (P : Procedure) → slice_get Ps n ≡ Some P → get_or Ps n no_procedure ≡ P
-nth_getD [] n P e = let z : ◌≡◌ {A = ℕ} 0 1 = cc in absurd (omega arith)
-nth_getD (Q ∷ Ps) zero P e = cc
-nth_getD (Q ∷ Ps) (suc n) P e = nth_getD Ps n P e
-
 abbrev Rising : List Procedure → Type 0
 Rising Ps = (n : ℕ) (P Q : Procedure) → slice_get Ps n ≡ Some P → slice_get Ps (suc n) ≡ Some Q → P.first < Q.first
 
@@ -56,7 +44,7 @@ rising : (T : Contents) → TableRule T → Rising T.procedures
 rising T t n P Q e f =
     let r = (t.each (suc n) Q f).first_rises (omega arith) in
     let z : suc n - 1 ≡ n = omega arith in
-    let g : (procedure_at T (suc n - 1)).first ≡ P.first = ap (λ k. (procedure_at T k).first) z ∙ ap (λ (X : Procedure). X.first) (nth_getD T.procedures n P e) in
+    let g : (procedure_at T (suc n - 1)).first ≡ P.first = ap (λ k. (procedure_at T k).first) z ∙ ap (λ (X : Procedure). X.first) (get_or_from_slice_get T.procedures n P no_procedure e) in
     omega (arith, g, r)
 
 above : (T : Contents) (P : Procedure) (Ps : List Procedure) → Rising (P ∷ Ps) → (k : ℕ) → In k (map (λ h. h.0) (map (entry_of T) Ps)) → P.first < k
@@ -72,57 +60,6 @@ apart : (T : Contents) → TableRule T → Apart (stacks T)
 apart T t i p m = entries_apart (map (entry_of T) T.procedures) (apart_by T T.procedures (rising T t)) i p m
 
 -- ---- what is handed on fits where it goes
-room_same : (T : Contents) (j n : ℕ) → owner T j ≡ owner T n → room_at T j ≡ room_at T n
-room_same T j n e = ap (λ o. room_of (slice_get T.code (procedure_at T o).first)) e
-
-fits_at : (T : Contents) (j n : ℕ) (s : Stack) → owner T j ≡ owner T n → cells_on s ≤ room_at T n → fit T j s ≡ None
-fits_at T j n s e l =
-    let r = room_same T j n e in
-    ap (λ b. cond b None (Some TooHigh)) (le-leb (cells_on s) (room_at T j) (omega (arith, r, l)))
-
-abbrev FitAll : Contents → List (Hand Stack) → Type 0
-FitAll T hs = All (λ h. fit T h.0 h.1 ≡ None) hs
-
-next_own : (T : Contents) (n : ℕ) → has_next T n ≡ true → owner T (n + 1) ≡ owner T n
-next_own T n e = eqb-true (owner T (n + 1)) (owner T n) (and_parts (ltb (n + 1) (length T.code)) (eqb (owner T (n + 1)) (owner T n)) e).1
-
-handed_fit : (T : Contents) (n : ℕ) (w : Way) (s : Stack) → stays T n w ≡ true → SoundWay T n w → cells_on s ≤ room_at T n → FitAll T (handed w n s)
-handed_fit T n Halt s e l c = tt
-handed_fit T n Next s e l c = (fits_at T (n + 1) n s (next_own T n e) c, tt)
-handed_fit T n (Jump q) s e l c = (fits_at T q n s l.1.0 c, tt)
-handed_fit T n (Fork q) s e l c = (fits_at T q n s l.1.0 c, (fits_at T (n + 1) n s (next_own T n e) c, tt))
-
-no_way : {X : Type 0} (hs : List (Hand Stack)) (b : Breach) → ◌≡◌ {A = Result (List (Hand Stack)) Breach} (Err b) (Ok hs) → X
-no_way hs b e = let z : ◌≡◌ {A = ℕ} 0 1 = cc in absurd (omega arith)
-
-same_list : (T : Contents) (hs gs : List (Hand Stack)) → ◌≡◌ {A = Result (List (Hand Stack)) Breach} (Ok hs) (Ok gs) → FitAll T hs → FitAll T gs
-same_list T hs gs e l = let z : hs ≡ gs = cc in subst (FitAll T) z l
-
-sent_fit : (T : Contents) (n : ℕ) (w : Way) (s : Stack) (fits st : Bool) (hs : List (Hand Stack)) → leb (cells_on s) (room_at T n) ≡ fits → stays T n w ≡ st → SoundWay T n w
-    → cond fits (cond st (Ok (handed w n s)) (Err PastTheEnd)) (Err StackTooHigh) ≡ Ok hs → FitAll T hs
-sent_fit T n w s true true hs c e l q = same_list T (handed w n s) hs q (handed_fit T n w s e l (leb-true (cells_on s) (room_at T n) c))
-sent_fit T n w s true false hs c e l q = no_way hs PastTheEnd q
-sent_fit T n w s false st hs c e l q = no_way hs StackTooHigh q
-
-passed_fit : (T : Contents) (n : ℕ) (g : Gives) (w : Way) (o : Option Stack) (hs : List (Hand Stack)) → SoundWay T n w → passed_on T n g w o ≡ Ok hs → FitAll T hs
-passed_fit T n g w None hs l q = no_way hs WrongStack q
-passed_fit T n g w (Some s) hs l q = sent_fit T n w (more g s) (leb (cells_on (more g s)) (room_at T n)) (stays T n w) hs refl refl l q
-
-goes_fit : (T : Contents) (n : ℕ) (e : Effect) (w : Way) (s : Stack) (hs : List (Hand Stack)) → SoundWay T n w → goes T n e w s ≡ Ok hs → FitAll T hs
-goes_fit T n e Halt s hs l q = same_list T [] hs q tt
-goes_fit T n e Next s hs l q = passed_fit T n e.gives Next (less T (owner T n) e.takes s) hs l q
-goes_fit T n e (Jump j) s hs l q = passed_fit T n e.gives (Jump j) (less T (owner T n) e.takes s) hs l q
-goes_fit T n e (Fork j) s hs l q = passed_fit T n e.gives (Fork j) (less T (owner T n) e.takes s) hs l q
-
-from_fit : (T : Contents) → first_fault T ≡ None → (n : ℕ) (o : Option Instruction) (s : Stack) (hs : List (Hand Stack)) → slice_get T.code n ≡ o → goes_from T n o s ≡ Ok hs → FitAll T hs
-from_fit T c n None s hs a q = same_list T [] hs q tt
-from_fit T c n (Some x) s hs a q = goes_fit T n (effect_of T n x) (effect_of T n x).way s hs (effects_are_sound T c n x a).2 q
-
--- a step that hands on is a transfer that does
-stepped : (r : Result (List (Hand Stack)) Breach) (hs : List (Hand Stack)) → as_step r ≡ hands_on hs → r ≡ Ok hs
-stepped (Ok gs) hs q = let z : gs ≡ hs = cc in ap Ok z
-stepped (Err b) hs q = let z : ◌≡◌ {A = ℕ} 0 1 = cc in absurd (omega arith)
-
 agree_not_lower : (b : Bool) (t : Stack) {X : Type 0} → agree b ≡ lower t → X
 unfolding agree
 agree_not_lower true t e = let z : ◌≡◌ {A = ℕ} 0 1 = cc in absurd (omega arith)
@@ -130,7 +67,10 @@ agree_not_lower false t e = let z : ◌≡◌ {A = ℕ} 0 1 = cc in absurd (omeg
 
 suits : (T : Contents) → first_fault T ≡ None → Suits (stacks T) (fit T)
 suits T c = record {
-  handed = λ n s hs e. from_fit T c n (slice_get T.code n) s hs refl (stepped (transfer T n s) hs e);
+  handed = λ n s hs e.
+      each_all (λ j r. cells_on r ≤ room_at T j) (λ h. fit T h.0 h.1 ≡ None) hs
+      (λ h l. ap (λ b. cond b None (Some TooHigh)) (le-leb (cells_on h.1) (room_at T h.0) l))
+      (transfer_fits T n s hs c (stepped (transfer T n s) hs e));
   lowered = λ n q s t a b e. agree_not_lower (same_stack q s) t e;
 }
 
@@ -244,11 +184,14 @@ admit_accepts_exactly_local_rows T r rows l w = (to, from)
   where
     to : admitted T r rows ≡ None → LocallyRight T rows
     to e =
-        let p = first_none (table_fault T) (option_or (rows_fault T r) (option_or (operand_fault T) (named (admit (stacks T) (fit T) rows)))) e in
-        let q = first_none (rows_fault T r) (option_or (operand_fault T) (named (admit (stacks T) (fit T) rows))) p.1 in
-        let u = first_none (operand_fault T) (named (admit (stacks T) (fit T) rows)) q.1 in
-        let t = (table_is_checked T).0 p.0 in
-        right T rows p.0 u.0 (((exact T (unchecked T p.0 u.0) t).accepts rows w).0 (named_none (admit (stacks T) (fit T) rows) u.1))
+        let named_fault = named (admit (stacks T) (fit T) rows) in
+        let a = neither_left (table_fault T) (option_or (rows_fault T r) (option_or (operand_fault T) named_fault)) e in
+        let p = neither_right (table_fault T) (option_or (rows_fault T r) (option_or (operand_fault T) named_fault)) e in
+        let q = neither_right (rows_fault T r) (option_or (operand_fault T) named_fault) p in
+        let b = neither_left (operand_fault T) named_fault q in
+        let u = neither_right (operand_fault T) named_fault q in
+        let t = (table_is_checked T).0 a in
+        right T rows a b (((exact T (unchecked T a b) t).accepts rows w).0 (named_none (admit (stacks T) (fit T) rows) u))
 
     from : LocallyRight T rows → admitted T r rows ≡ None
     from x =

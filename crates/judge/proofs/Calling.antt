@@ -1,11 +1,10 @@
 -- Rows counted, and the judgement over rows that are blank at first.
-use Rattle.std.proofs.Common.{◌≡◌, ℕ, zero, suc, ◌+◌, Bool, true, false, cond, List, [], ◌∷◌, ◌++◌, map, length, drop, replicate, count_by, Some, None, Ok, Err, Option, Result, sym, refl, ap, ◌∙◌, arith}
+use Rattle.std.proofs.Common.{◌≡◌, ℕ, zero, suc, ◌+◌, Bool, true, false, cond, List, [], ◌∷◌, ◌++◌, map, length, drop, replicate, count_by, None, Ok, Err, Result, sym, refl, ap, ◌∙◌, arith}
 use mathlib.Core.List.{map-append}
 use Rattle.std.proofs.lemmas.List.{drop-map, drop_at}
 use Rattle.std.proofs.lemmas.List.Sums.{sum_by-cons}
 use Rattle.sheet.specs.Tables.{Contents}
 use Rattle.rules.specs.declared.fault.TableFault.{TableFault}
-use Rattle.rules.specs.Faults.{passed}
 use Rattle.paths.specs.Judging.{Progress, enter, judge}
 use Rattle.paths.specs.Rows.{Rows, count}
 use Rattle.paths.proofs.Counts.{count_skip, count_one}
@@ -52,12 +51,3 @@ written fs rs n = map-append meaning fs (drop n rs) ∙ ap (λ rows. meanings fs
 -- written over once more
 pub again : (fs ns rs : List Row) (n : ℕ) → length ns ≡ n → meanings (fs ++ drop n (ns ++ drop n rs)) ≡ meanings fs ++ drop n (meanings rs)
 again fs ns rs n l = ap (λ r. meanings (fs ++ r)) (drop_at ns (drop n rs) n l) ∙ written fs rs n
-
--- ---- refused before any path is followed, or not
-pub failed : (o : Option TableFault) (f : TableFault) → Err f ≡ passed o → o ≡ Some f
-failed None f e = let z : ◌≡◌ {A = ℕ} 0 1 = cc in absurd (omega arith)
-failed (Some g) f e = let z : f ≡ g = cc in ap Some (sym z)
-
-pub none_failed : (o : Option TableFault) (u : Unit {0}) → Ok u ≡ passed o → o ≡ None
-none_failed None u e = refl
-none_failed (Some g) u e = let z : ◌≡◌ {A = ℕ} 0 1 = cc in absurd (omega arith)

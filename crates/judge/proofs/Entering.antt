@@ -10,22 +10,20 @@ use Rattle.rules.specs.Lookups.{no_procedure}
 use Rattle.rules.specs.Operands.{first_fault}
 use Rattle.rules.specs.ProcedureLaws.{ProcedureRule}
 use Rattle.paths.specs.Judging.{Progress, going, refused, hand, settle, enter}
-use Rattle.paths.specs.Loops.{Ready, WorkLoop, EntryLoop}
+use Rattle.paths.specs.Loops.{Ready, EntryLoop}
 use Rattle.paths.specs.Rows.{Rows}
 use Rattle.paths.proofs.Entering.{entry_loop}
-use Rattle.paths.proofs.Loops.{work_loop}
 use Rattle.rows.specs.declared.entry.Entry.TheVariants.{Value}
 use Rattle.rows.specs.declared.row.Row.{Row}
-use Rattle.rows.specs.Entries.{proper}
-use Rattle.rows.specs.Rows.{every, is_row, packed}
+use Rattle.rows.specs.Rows.{is_row, packed}
 use Rattle.transfer.specs.Stacks.{Stack}
 use Rattle.transfer.specs.Transfer.{stack_of}
-use Rattle.transfer.proofs.Fitting.{packed_is, packs}
+use Rattle.transfer.proofs.Checking.{table_rule}
+use Rattle.transfer.proofs.Fitting.{values_proper, packed_is, packs}
 use Rattle.judge.specs.declared.flaw.Flaw.{Flaw}
 use Rattle.judge.specs.Flow.{entry_of, stacks}
 use Rattle.judge.specs.Handing.{handed_to, on_with, entered}
-use Rattle.judge.proofs.Admission.{law}
-use Rattle.judge.proofs.Following.{keeps}
+use Rattle.judge.proofs.Following.{turns}
 use Rattle.judge.proofs.Readying.{hand_is, still_ready}
 
 -- nothing waits
@@ -35,10 +33,6 @@ none_waits rows = record { distinct = tt; rowed = λ k m. absurd m }
 values_turned : (ts : List Kind) → reverse (map Value ts) ≡ map Value (reverse ts)
 values_turned [] = refl
 values_turned (t ∷ ts) = reverse-append (Value t ∷ []) (map Value ts) ∙ ap (λ s. s ++ Value t ∷ []) (values_turned ts) ∙ sym (map-append Value (reverse ts) (t ∷ [])) ∙ sym (ap (map Value) (reverse-append (t ∷ []) ts))
-
-values_proper : (ts : List Kind) → every proper (map Value ts) ≡ true
-values_proper [] = refl
-values_proper (t ∷ ts) = values_proper ts
 
 module _ (T : Contents) (P : Procedure) where
   abbrev own : List Kind
@@ -65,9 +59,6 @@ module _ (T : Contents) (P : Procedure) where
 
 -- ---- procedure by procedure
 module _ (T : Contents) (checked : first_fault T ≡ None) where
-  turns : WorkLoop (stacks T)
-  turns = work_loop (stacks T) (law T checked (keeps T checked))
-
   entries : EntryLoop (stacks T)
   entries = entry_loop (stacks T)
 
@@ -92,7 +83,7 @@ module _ (T : Contents) (checked : first_fault T ≡ None) where
         by (going r w) h f =
             let y = still_ready rows r [] w (entry_of T P).0 (entry_of T P).1 inside (none_waits rows) h in (
               entries.turn_on (entry_of T P) (map (entry_of T) Ps) rows r w rows' work' (same_hand ∙ h) f,
-              turns.empties r w rows' work' (y.1 ∙ wide) f,
+              (turns T checked).empties r w rows' work' (y.1 ∙ wide) f,
             )
         by (refused g n) h f = let z : ◌≡◌ {A = ℕ} 0 1 = cc in absurd (omega arith)
 
@@ -107,4 +98,4 @@ module _ (T : Contents) (checked : first_fault T ≡ None) where
   no_procedures rows work e = entries.ended rows ∙ ap (going rows) (sym e)
 
   pub procedure_keeps : (i : ℕ) → i < length T.procedures → ProcedureRule T i (get_or T.procedures i no_procedure)
-  procedure_keeps i l = (keeps T checked).each i (get_or T.procedures i no_procedure) (slice_get-get_or T.procedures i no_procedure l)
+  procedure_keeps i l = (table_rule T checked).each i (get_or T.procedures i no_procedure) (slice_get-get_or T.procedures i no_procedure l)

@@ -5,11 +5,7 @@ use Rattle.std.specs.Option.{option_to_list}
 use Rattle.std.proofs.lemmas.List.{length-map}
 use Rattle.sheet.specs.Tables.{Contents}
 use Rattle.rules.specs.declared.fault.TableFault.{TableFault}
-use Rattle.rules.specs.Operands.{operand_fault, first_fault}
-use Rattle.rules.specs.ProcedureLaws.{TableRule}
-use Rattle.rules.specs.Procedures.{table_fault}
-use Rattle.rules.proofs.EffectLaws.{neither_left}
-use Rattle.rules.proofs.ProcedureLaws.{table_is_checked}
+use Rattle.rules.specs.Operands.{first_fault}
 use Rattle.paths.specs.Flows.{breaks, hands_on}
 use Rattle.paths.specs.Judging.{going, refused, judge_by, judge_one, settle, weight}
 use Rattle.paths.specs.Lists.{All}
@@ -19,9 +15,10 @@ use Rattle.paths.proofs.Loops.{judges, work_loop}
 use Rattle.rows.specs.declared.row.Row.{Row}
 use Rattle.rows.specs.Rows.{is_row, meaning}
 use Rattle.transfer.specs.declared.breach.Breach.{Breach}
-use Rattle.transfer.specs.declared.transfer.Sent.{Sent}
+use Rattle.transfer.specs.declared.sent.Sent.{Sent}
 use Rattle.transfer.specs.Stacks.{Stack}
 use Rattle.transfer.specs.Transfer.{handed, transfer, stack_of, outcome}
+use Rattle.transfer.proofs.Checking.{table_rule}
 use Rattle.judge.specs.declared.flaw.Flaw.{Flaw}
 use Rattle.judge.specs.declared.flaw.Flaw.TheVariants.{Broken}
 use Rattle.judge.specs.Flaws.{flaw_at}
@@ -67,15 +64,12 @@ rest_ready rows (Some i) work work' e y =
     ∥∥₁_map (subst (λ (w : List ℕ). ∥ Ready rows w ∥₁) e y) (λ y. record { distinct = y.distinct.1; rowed = λ k m. y.rowed k (inr m) })
 
 module _ (T : Contents) (checked : first_fault T ≡ None) where
-  pub keeps : TableRule T
-  keeps = (table_is_checked T).0 (neither_left (table_fault T) (operand_fault T) checked)
-
   -- the answer of the transfer function is what the instruction does
   stepped : (i : ℕ) (s : Stack) (r : Result Sent Breach) → outcome i r ≡ transfer T i s → (stacks T).transfer i s ≡ as_step (outcome i r)
   stepped i s r e = ap as_step (sym e)
 
   low : (i : ℕ) (s : Stack) (sent : Sent) → outcome i (Ok sent) ≡ transfer T i s → All (λ h. h.0 < length T.code) (handed sent.way i (stack_of sent.row))
-  low i s sent e = (inside T checked keeps).goes i s (handed sent.way i (stack_of sent.row)) (stepped i s (Ok sent) e)
+  low i s sent e = (inside T checked (table_rule T checked)).goes i s (handed sent.way i (stack_of sent.row)) (stepped i s (Ok sent) e)
 
   broken : (rows : Rows Stack) (work : List ℕ) (i : ℕ) (s : Stack) (b : Breach) → row_at rows i ≡ Some s → outcome i (Err b) ≡ transfer T i s
       → judge_one (stacks T) i rows work ≡ refused (Broken b) i
@@ -90,8 +84,8 @@ module _ (T : Contents) (checked : first_fault T ≡ None) where
       ∙ all_is T (handed sent.way i (stack_of sent.row)) rows work
 
   -- ---- turn by turn
-  turns : WorkLoop (stacks T)
-  turns = work_loop (stacks T) (law T checked keeps)
+  pub turns : WorkLoop (stacks T)
+  turns = work_loop (stacks T) (law T checked (table_rule T checked))
 
   -- before the turn rows are rs and the work list is i ∷ work; after it they are rs' and work'
   pub record Turned (rs rs' : List Row) (i : ℕ) (work work' : List ℕ) : Type 0 where

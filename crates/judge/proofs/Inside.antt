@@ -1,124 +1,66 @@
 -- In a checked table entries and successors lie in the table, and stacks are told apart.
-use Rattle.std.proofs.Common.{◌≡◌, ℕ, suc, ◌+◌, ◌<◌, Bool, true, false, cond, ◌&&◌, eqb, ltb, leb, List, [], ◌∷◌, map, length, Some, None, Ok, Err, Option, Result, refl, ap, ◌∙◌, subst, arith}
+use Rattle.std.proofs.Common.{◌≡◌, ℕ, suc, ◌<◌, true, cond, ◌&&◌, eqb, List, [], ◌∷◌, map, length, Some, None, Ok, Err, Result, sym, refl, ap, ◌∙◌, subst, arith}
 use Rattle.std.specs.List.{slice_get}
-use Rattle.std.proofs.lemmas.Bool.{ltb-true, eqb-true, eq-eqb, and_parts}
-use Rattle.std.proofs.lemmas.Bool.Decides.{nat_tests}
-use Rattle.sheet.specs.declared.instruction.Instruction.{Instruction}
+use Rattle.std.proofs.lemmas.Bool.{eqb-true, eq-eqb, and_parts}
 use Rattle.sheet.specs.declared.kind.Kind.{Kind}
 use Rattle.sheet.specs.declared.kind.Kind.TheVariants as k
 use Rattle.sheet.specs.declared.procedure.Procedure.{Procedure}
-use Rattle.sheet.specs.Kinds.{same}
+use Rattle.sheet.specs.Kinds.{letter_of, same}
 use Rattle.sheet.specs.Tables.{Contents}
-use Rattle.rules.specs.declared.effects.Effect.{Effect}
-use Rattle.rules.specs.declared.effects.Gives.{Gives}
-use Rattle.rules.specs.declared.effects.Way.{Way}
-use Rattle.rules.specs.declared.effects.Way.TheVariants.{Halt, Next, Jump, Fork}
-use Rattle.rules.specs.EffectLaws.{SoundWay}
-use Rattle.rules.specs.Effects.{effect_of}
-use Rattle.rules.specs.Lookups.{owner, room_at}
+use Rattle.rules.specs.Lookups.{owner}
 use Rattle.rules.specs.Operands.{first_fault}
 use Rattle.rules.specs.ProcedureLaws.{TableRule}
-use Rattle.rules.proofs.EffectLaws.{effects_are_sound}
 use Rattle.paths.specs.Lists.{All}
 use Rattle.paths.specs.Flows.{Hand, hands_on, Inside}
 use Rattle.paths.specs.Exact.{Tells}
 use Rattle.rows.specs.declared.entry.Entry.{Entry}
 use Rattle.rows.specs.declared.entry.Entry.TheVariants.{Value, Mark}
 use Rattle.transfer.specs.declared.breach.Breach.{Breach}
-use Rattle.transfer.specs.declared.breach.Breach.TheVariants.{WrongStack, StackTooHigh, PastTheEnd}
-use Rattle.transfer.specs.Stacks.{Stack, cells_on, less, more}
-use Rattle.transfer.specs.Transfer.{handed, has_next, stays, passed_on, goes, goes_from, transfer}
+use Rattle.transfer.specs.Laws.{Each}
+use Rattle.transfer.specs.Stacks.{Stack}
+use Rattle.transfer.specs.Transfer.{transfer}
+use Rattle.transfer.proofs.Laws.{transfer_stays_inside}
 use Rattle.judge.specs.Flow.{same_entry, same_stack, entry_of, as_step, stacks}
 
-abbrev Low : Contents → List (Hand Stack) → Type 0
-Low T hs = All (λ h. h.0 < length T.code) hs
+-- a step that hands on is a transfer that does
+pub stepped : (r : Result (List (Hand Stack)) Breach) (hs : List (Hand Stack)) → as_step r ≡ hands_on hs → r ≡ Ok hs
+stepped (Ok gs) hs q = let z : gs ≡ hs = cc in ap Ok z
+stepped (Err b) hs q = let z : ◌≡◌ {A = ℕ} 0 1 = cc in absurd (omega arith)
 
--- Ok is not Err
-not_err : {X : Type 0} (hs : List (Hand Stack)) (b : Breach) → ◌≡◌ {A = Result (List (Hand Stack)) Breach} (Err b) (Ok hs) → X
-not_err hs b e = let z : ◌≡◌ {A = ℕ} 0 1 = cc in absurd (omega arith)
+-- what holds of each stack handed on, as the path engine says it
+pub each_all : (Q : ℕ → Stack → Type 0) (P : Hand Stack → Type 0) (hs : List (Hand Stack)) → ((h : Hand Stack) → Q h.0 h.1 → P h) → Each Q hs → All P hs
+each_all Q P [] f e = tt
+each_all Q P (h ∷ hs) f e = (f h e.0, each_all Q P hs f e.1)
 
-low_is : (T : Contents) (hs gs : List (Hand Stack)) → ◌≡◌ {A = Result (List (Hand Stack)) Breach} (Ok hs) (Ok gs) → Low T hs → Low T gs
-low_is T hs gs e l = let z : hs ≡ gs = cc in subst (Low T) z l
-
-next_low : (T : Contents) (n : ℕ) → has_next T n ≡ true → n + 1 < length T.code
-next_low T n e = ltb-true (n + 1) (length T.code) (and_parts (ltb (n + 1) (length T.code)) (eqb (owner T (n + 1)) (owner T n)) e).0
-
-handed_low : (T : Contents) (n : ℕ) (w : Way) (s : Stack) → stays T n w ≡ true → SoundWay T n w → Low T (handed w n s)
-handed_low T n Halt s e l = tt
-handed_low T n Next s e l = (next_low T n e, tt)
-handed_low T n (Jump q) s e l = (l.0, tt)
-handed_low T n (Fork q) s e l = (l.0, (next_low T n e, tt))
-
-sent_low : (T : Contents) (n : ℕ) (w : Way) (s : Stack) (fits st : Bool) (hs : List (Hand Stack)) → stays T n w ≡ st → SoundWay T n w
-    → cond fits (cond st (Ok (handed w n s)) (Err PastTheEnd)) (Err StackTooHigh) ≡ Ok hs → Low T hs
-sent_low T n w s true true hs e l q = low_is T (handed w n s) hs q (handed_low T n w s e l)
-sent_low T n w s true false hs e l q = not_err hs PastTheEnd q
-sent_low T n w s false st hs e l q = not_err hs StackTooHigh q
-
-passed_low : (T : Contents) (n : ℕ) (g : Gives) (w : Way) (o : Option Stack) (hs : List (Hand Stack)) → SoundWay T n w → passed_on T n g w o ≡ Ok hs → Low T hs
-passed_low T n g w None hs l q = not_err hs WrongStack q
-passed_low T n g w (Some s) hs l q = sent_low T n w (more g s) (leb (cells_on (more g s)) (room_at T n)) (stays T n w) hs refl l q
-
-goes_low : (T : Contents) (n : ℕ) (e : Effect) (w : Way) (s : Stack) (hs : List (Hand Stack)) → SoundWay T n w → goes T n e w s ≡ Ok hs → Low T hs
-goes_low T n e Halt s hs l q = low_is T [] hs q tt
-goes_low T n e Next s hs l q = passed_low T n e.gives Next (less T (owner T n) e.takes s) hs l q
-goes_low T n e (Jump j) s hs l q = passed_low T n e.gives (Jump j) (less T (owner T n) e.takes s) hs l q
-goes_low T n e (Fork j) s hs l q = passed_low T n e.gives (Fork j) (less T (owner T n) e.takes s) hs l q
-
-from_low : (T : Contents) → first_fault T ≡ None → (n : ℕ) (o : Option Instruction) (s : Stack) (hs : List (Hand Stack)) → slice_get T.code n ≡ o
-    → goes_from T n o s ≡ Ok hs → Low T hs
-from_low T c n None s hs a q = low_is T [] hs q tt
-from_low T c n (Some x) s hs a q = goes_low T n (effect_of T n x) (effect_of T n x).way s hs (effects_are_sound T c n x a).2 q
-
-step_low : (T : Contents) → first_fault T ≡ None → (n : ℕ) (s : Stack) (r : Result (List (Hand Stack)) Breach) (hs : List (Hand Stack)) → transfer T n s ≡ r
-    → as_step r ≡ hands_on hs → Low T hs
-step_low T c n s (Ok gs) hs e q = let z : gs ≡ hs = cc in subst (Low T) z (from_low T c n (slice_get T.code n) s gs refl e)
-step_low T c n s (Err b) hs e q = let z : ◌≡◌ {A = ℕ} 0 1 = cc in absurd (omega arith)
-
-entries_low : (T : Contents) (Ps : List Procedure) → ((n : ℕ) (P : Procedure) → slice_get Ps n ≡ Some P → P.first < length T.code) → Low T (map (entry_of T) Ps)
+entries_low : (T : Contents) (Ps : List Procedure) → ((n : ℕ) (P : Procedure) → slice_get Ps n ≡ Some P → P.first < length T.code) → All (λ h. h.0 < length T.code) (map (entry_of T) Ps)
 entries_low T [] h = tt
 entries_low T (P ∷ Ps) h = (h 0 P refl, entries_low T Ps (λ n Q e. h (suc n) Q e))
 
 pub inside : (T : Contents) → first_fault T ≡ None → TableRule T → Inside (stacks T)
 inside T c t = record {
   starts = entries_low T T.procedures (λ n P e. (t.each n P e).first_is_inside);
-  goes = λ n s hs e. step_low T c n s (transfer T n s) hs refl e;
+  goes = λ n s hs e.
+      each_all (λ j r. (j < length T.code) × (owner T j ≡ owner T n)) (λ h. h.0 < length T.code) hs (λ h p. p.0)
+      (transfer_stays_inside T n s hs c (stepped (transfer T n s) hs e));
 }
 
 -- ---- equal stacks
-same_kind : (s t : Kind) → same s t ≡ true → s ≡ t
-same_kind k.Address k.Address e = refl
-same_kind k.Boolean k.Boolean e = refl
-same_kind k.Character k.Character e = refl
-same_kind k.Integer k.Integer e = refl
-same_kind k.Real k.Real e = refl
-same_kind k.Address k.Boolean e = grind (arith, nat_tests)
-same_kind k.Address k.Character e = grind (arith, nat_tests)
-same_kind k.Address k.Integer e = grind (arith, nat_tests)
-same_kind k.Address k.Real e = grind (arith, nat_tests)
-same_kind k.Boolean k.Address e = grind (arith, nat_tests)
-same_kind k.Boolean k.Character e = grind (arith, nat_tests)
-same_kind k.Boolean k.Integer e = grind (arith, nat_tests)
-same_kind k.Boolean k.Real e = grind (arith, nat_tests)
-same_kind k.Character k.Address e = grind (arith, nat_tests)
-same_kind k.Character k.Boolean e = grind (arith, nat_tests)
-same_kind k.Character k.Integer e = grind (arith, nat_tests)
-same_kind k.Character k.Real e = grind (arith, nat_tests)
-same_kind k.Integer k.Address e = grind (arith, nat_tests)
-same_kind k.Integer k.Boolean e = grind (arith, nat_tests)
-same_kind k.Integer k.Character e = grind (arith, nat_tests)
-same_kind k.Integer k.Real e = grind (arith, nat_tests)
-same_kind k.Real k.Address e = grind (arith, nat_tests)
-same_kind k.Real k.Boolean e = grind (arith, nat_tests)
-same_kind k.Real k.Character e = grind (arith, nat_tests)
-same_kind k.Real k.Integer e = grind (arith, nat_tests)
+-- the kind of a letter
+abbrev kind_by : ℕ → Kind
+kind_by n = cond (eqb n 97) k.Address (cond (eqb n 98) k.Boolean (cond (eqb n 99) k.Character (cond (eqb n 105) k.Integer k.Real)))
 
-kind_same : (t : Kind) → same t t ≡ true
-kind_same k.Address = refl
-kind_same k.Boolean = refl
-kind_same k.Character = refl
-kind_same k.Integer = refl
-kind_same k.Real = refl
+kind_by_letter : (t : Kind) → kind_by (letter_of t) ≡ t
+kind_by_letter k.Address = refl
+kind_by_letter k.Boolean = refl
+kind_by_letter k.Character = refl
+kind_by_letter k.Integer = refl
+kind_by_letter k.Real = refl
+
+pub same_kind : (s t : Kind) → same s t ≡ true → s ≡ t
+same_kind s t e = sym (kind_by_letter s) ∙ (ap kind_by (eqb-true (letter_of s) (letter_of t) e) ∙ kind_by_letter t)
+
+pub kind_same : (t : Kind) → same t t ≡ true
+kind_same t = eq-eqb (letter_of t) (letter_of t) refl
 
 entries_equal : (x y : Entry) → same_entry x y ≡ true → x ≡ y
 entries_equal (Value s) (Value t) e = ap Value (same_kind s t e)

@@ -10,6 +10,7 @@ use Rattle.rules.specs.Operands.{operand_fault, first_fault}
 use Rattle.rules.specs.ProcedureLaws.{TableRule}
 use Rattle.rules.specs.Procedures.{table_fault}
 use Rattle.rules.specs.Throughout.{HoldsThroughout}
+use Rattle.rules.proofs.EffectLaws.{neither_left, neither_right}
 use Rattle.rules.proofs.OperandLaws.{operands_are_checked}
 use Rattle.rules.proofs.ProcedureLaws.{table_is_checked}
 use Rattle.paths.specs.Exact.{Exact}
@@ -57,15 +58,13 @@ long_none : (T : Contents) (r w : ℕ) → LongEnough T r w → places_fault T r
 long_none T r w l =
     ap (λ b. cond b None (Some TooFewPlaces)) (and_from (leb (length T.code) r) (leb (length T.code) w) (le-leb (length T.code) r l.0) (le-leb (length T.code) w l.1))
 
-pub first_none : {X : Type 0} (o p : Option X) → option_or o p ≡ None → (o ≡ None) × (p ≡ None)
-first_none None p e = (refl, e)
-first_none (Some x) p e = let z : ◌≡◌ {A = ℕ} 0 1 = cc in absurd (omega arith)
-
 all_none : (T : Contents) (r w : ℕ) → checked T r w ≡ None → (table_fault T ≡ None) × (places_fault T r w ≡ None) × (operand_fault T ≡ None)
 all_none T r w e =
-    let p = first_none (table_fault T) (option_or (places_fault T r w) (operand_fault T)) e in
-    let q = first_none (places_fault T r w) (operand_fault T) p.1 in
-    (p.0, q.0, q.1)
+    let p = neither_right (table_fault T) (option_or (places_fault T r w) (operand_fault T)) e in (
+      neither_left (table_fault T) (option_or (places_fault T r w) (operand_fault T)) e,
+      neither_left (places_fault T r w) (operand_fault T) p,
+      neither_right (places_fault T r w) (operand_fault T) p,
+    )
 
 checked_none : (T : Contents) (r w : ℕ) → table_fault T ≡ None → places_fault T r w ≡ None → operand_fault T ≡ None → checked T r w ≡ None
 checked_none T r w a b c = ap (λ o. option_or o (option_or (places_fault T r w) (operand_fault T))) a ∙ ap (λ o. option_or o (operand_fault T)) b ∙ c

@@ -1,4 +1,5 @@
--- A stack comes to an instruction, over rows as records. Cited by the loops of judge. Assumes nothing.
+-- A stack comes to an instruction, over rows as records. Cited by the functions of judge; meanings by prepare and admit too,
+-- and must_be by admit. Assumes nothing.
 --   meanings: the rows that records mean
 --   handed_to: an instruction without a row takes the stack and waits; one with a row must have the same
 --   handed_all: stacks handed on one after another

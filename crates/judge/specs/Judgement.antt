@@ -1,4 +1,5 @@
--- What judge answers. Cited by its contract and by the laws on it. Assumes nothing.
+-- What judge answers. Cited by its contract and by the laws on it; ruled by admit too. Assumes nothing.
+--   ruled: what is refused where there is room for so many instructions, in the order 20, 26, 21
 --   places_fault: rows or a work list of fewer places than there are instructions
 --   checked: the refusals before any path is followed, in the order 20, 26, 21
 --   judged: the rows that the paths leave, or the refusal
@@ -20,8 +21,12 @@ use Rattle.rows.specs.declared.row.Row.{Row}
 use Rattle.rows.specs.Rows.{no_row}
 use Rattle.transfer.specs.Stacks.{Stack}
 use Rattle.judge.specs.declared.flaw.Flaw.{Flaw}
+use Rattle.judge.specs.Admission.{rows_fault}
 use Rattle.judge.specs.Flaws.{flaw_at}
 use Rattle.judge.specs.Flow.{stacks}
+
+abbrev pub ruled : Contents → (room : ℕ) → Option TableFault
+ruled T n = option_or (table_fault T) (option_or (rows_fault T n) (operand_fault T))
 
 abbrev pub places_fault : Contents → (rows work : ℕ) → Option TableFault
 places_fault T r w = cond (nat_le (length T.code) r && nat_le (length T.code) w) None (Some TooFewPlaces)

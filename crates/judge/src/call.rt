@@ -1,14 +1,13 @@
 // The verifier's call.
-ghost use Rattle.std.specs.Prelude.{◌≡◌, ◌≤◌, ◌++◌, map, length, take, drop, replicate, count_by, None};
+ghost use Rattle.std.specs.Prelude.{◌≡◌, ◌≤◌, ◌++◌, length, drop, replicate, count_by, None};
 ghost use Rattle.paths.specs.Judging.{judge as judgement};
-ghost use Rattle.paths.specs.Rows.{count};
 ghost use Rattle.rules.specs.Faults.{passed};
 ghost use Rattle.rules.specs.Lookups.{contents_of};
 ghost use Rattle.rows.specs.Rows.{is_row, no_row};
 ghost use Rattle.transfer.specs.Transfer.{Checked};
 ghost use Rattle.judge.specs.Flow.{stacks};
 ghost use Rattle.judge.specs.Handing.{meanings, ComesTo};
-ghost use Rattle.judge.specs.Judgement.{checked, followed, judged, answered, followed_rows, left_in_rows, left_in_places, RecordsLeft};
+ghost use Rattle.judge.specs.Judgement.{ruled, checked, followed, judged, answered, followed_rows, left_in_rows, left_in_places, RecordsLeft};
 ghost use Rattle.judge.specs.Laws.{JudgeAcceptsExactlyCleanTables, JudgeCountsWhatPathsReach, JudgeLeavesWhatPathsBring, JudgeRefusesForCause};
 
 use crate::verifier::Verifier;
@@ -19,12 +18,13 @@ use rules::operands::check_operands;
 use rules::procedures::check_table;
 use sheet::table::Table;
 
-// What is refused before any path is followed.
-fn check(table: Table<'_>, rows: usize, places: usize) -> Result<(), TableFault>
-    ensures { result ≡ passed (checked (contents_of table.entry) rows places) }
+// What is refused before any path is followed and before any row is read: the rules of tables, room for every instruction,
+// and the rules of operands, in this order.
+pub fn check_rules(table: Table<'_>, room: usize) -> Result<(), TableFault>
+    ensures { result ≡ passed (ruled (contents_of table.entry) room) }
 {
     check_table(table)?;
-    if rows < table.code.len() || places < table.code.len() {
+    if room < table.code.len() {
         return Err(TableFault::TooFewPlaces);
     }
     check_operands(table)
@@ -72,6 +72,7 @@ fn judge_checked(
     rows[..n].fill(Row::unreached());
     let verdict = follow(table, &mut rows[..n], places);
     places[..n].fill(0);
+    // a match and no `?`: on a refusal the rows are made unreached again
     match verdict {
         Ok(()) => Ok(reached(&rows[..n])),
         Err(fault) => {
@@ -83,6 +84,7 @@ fn judge_checked(
 
 // Judges a table on every path, and answers how many instructions have rows. Rows and places of the work list are lent,
 // one of each for every instruction.
+#[tactic(auto, using(crate::proofs::Laws::judge_leaves_what_paths_bring, crate::proofs::Laws::judge_counts_what_paths_reach, crate::proofs::Laws::judge_refuses_for_cause))]
 pub fn judge(table: Table<'_>, rows: &mut [Row], places: &mut [usize]) -> Result<usize, TableFault>
     ensures value { result ≡ answered (judged (contents_of table.entry) (length rows.old) (length places.old)) }
     ensures rows { meanings rows.new ≡ left_in_rows (contents_of table.entry) (length places.old) (meanings rows.old) }
@@ -93,6 +95,6 @@ pub fn judge(table: Table<'_>, rows: &mut [Row], places: &mut [usize]) -> Result
     ensures counts { JudgeCountsWhatPathsReach }
     ensures refuses { JudgeRefusesForCause }
 {
-    check(table, rows.len(), places.len())?;
+    check_rules(table, rows.len().min(places.len()))?;
     judge_checked(table, rows, places)
 }

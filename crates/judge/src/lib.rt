@@ -6,4 +6,4 @@ pub mod flaw;
 pub mod meet;
 mod verifier;
 
-pub use call::judge;
+pub use call::{check_rules, judge};

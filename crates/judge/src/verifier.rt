@@ -1,5 +1,5 @@
 // Following all paths: rows are handed on until nothing waits.
-ghost use Rattle.std.specs.Prelude.{◌≡◌, ◌<◌, ◌≤◌, true, [], ◌∷◌, map, length, IsSome};
+ghost use Rattle.std.specs.Prelude.{◌≡◌, ◌<◌, ◌≤◌, true, [], map, length, IsSome};
 ghost use Rattle.paths.specs.Judging.{enter, judge_one, settle as settled};
 ghost use Rattle.paths.specs.Lists.{All};
 ghost use Rattle.paths.specs.Loops.{Ready};
@@ -15,7 +15,6 @@ use crate::flaw::Flaw;
 use crate::meet::must_be;
 use pile::Pile;
 use rows::row::Row;
-use rules::effects::Way;
 use rules::fault::TableFault;
 use sheet::procedure::Procedure;
 use sheet::table::Table;
@@ -23,7 +22,8 @@ use transfer::entrance::entry_row;
 use transfer::transfer::{Sent, transfer};
 
 // A table whose paths are being followed: the rows that they brought so far, and the instructions that wait.
-// Rows and work list are lent apart, each for a lifetime of its own.
+// No type of its own for a table that keeps the rules: `transfer` takes any table, and promises more of this one.
+// The work list is lent, for a lifetime of its own: with the pile in it by value, the check loses what rows and places end as.
 #[derive(Drop)]
 pub(crate) struct Verifier<'a, 'b, 'c> {
     pub(crate) table: Table<'a>,
@@ -53,31 +53,20 @@ impl<'a, 'b, 'c> Verifier<'a, 'b, 'c> {
         self.work.push(j).map_err(|_| TableFault::TooFewPlaces)
     }
 
-    // One after the other.
-    fn hand_both(&mut self, j: usize, k: usize, row: Row) -> Result<(), TableFault>
-        requires first { j < length self.old.rows.now }
-        requires second { k < length self.old.rows.now }
-        requires row { is_row row ≡ true }
-        ensures kept { Kept self.old self.new }
-        ensures after { Follows result (handed_all ((j, stack_of row) ∷ (k, stack_of row) ∷ []) (rows_of self.old) (waiting self.old)) (rows_of self.new) (waiting self.new) }
-    {
-        self.hand(j, row)?;
-        self.hand(k, row)
-    }
-
     // Hands a stack to the label first, then to the next instruction.
     fn hand_on(&mut self, n: usize, sent: Sent) -> Result<(), TableFault>
-        requires inside { All (λ h. h.0 < length self.old.rows.now) (handed sent.way n (stack_of sent.row)) }
-        requires row { is_row sent.row ≡ true }
+        requires { All (λ h. h.0 < length self.old.rows.now) (handed sent.way n (stack_of sent.row)) }
         ensures kept { Kept self.old self.new }
         ensures after { Follows result (handed_all (handed sent.way n (stack_of sent.row)) (rows_of self.old) (waiting self.old)) (rows_of self.new) (waiting self.new) }
     {
-        match sent.way {
-            Way::Halt => Ok(()),
-            Way::Next => self.hand(n + 1, sent.row),
-            Way::Jump(label) => self.hand(label, sent.row),
-            Way::Fork(label) => self.hand_both(label, n + 1, sent.row),
+        let (first, second) = sent.way.successors(n);
+        if let Some(j) = first {
+            self.hand(j, sent.row)?;
         }
+        if let Some(k) = second {
+            self.hand(k, sent.row)?;
+        }
+        Ok(())
     }
 
     // Instruction i, which has a row, does what it does with it.

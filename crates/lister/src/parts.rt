@@ -6,9 +6,6 @@ use sheet::procedure::Procedure;
 use sheet::table::Table;
 use std::alloc::{AllocError, Global};
 
-// The frame's offset of a procedure's first data cell.
-const FIRST_CELL: usize = 5;
-
 fn heading(heap: Global, number: usize, procedure: Procedure) -> Result<String, AllocError> {
     let Procedure {
         parent,
@@ -38,7 +35,7 @@ fn list_cells(
         .skip(procedure.offset)
         .take(procedure.count as usize);
     for (i, kind) in own.enumerate() {
-        let offset = FIRST_CELL.saturating_add(i);
+        let offset = Procedure::FIRST_CELL.saturating_add(i);
         let role = if i < procedure.parameters as usize {
             "parameter"
         } else {

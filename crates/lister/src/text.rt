@@ -11,7 +11,6 @@ use numerals::lines::Lines;
 use sheet::instruction::Instruction;
 use sheet::kind::Kind;
 use sheet::procedure::Procedure;
-use sheet::table::Table;
 use std::alloc::{AllocError, Global};
 
 // How many lines a text has: no list has more records.
@@ -52,14 +51,7 @@ pub fn list_table(heap: Global, text: &[u8]) -> Result<Vec<u8>, AllocError>
     let verdict = end_line(answer);
     let body = match answer {
         Ok(extent) => {
-            procedures.truncate(extent.procedures);
-            cells.truncate(extent.cells);
-            code.truncate(extent.code);
-            let table = Table {
-                procedures: &procedures,
-                cells: &cells,
-                code: &code,
-            };
+            let table = extent.table_in(&procedures, &cells, &code);
             list_parts(heap, table)?
         }
         Err(fault) => refusal(heap, text, fault)?,

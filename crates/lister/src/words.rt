@@ -1,4 +1,4 @@
-// The words of a listing.
+// The words of a listing: two texts for each mnemonic, so that neither is its Display.
 use sheet::mnemonic::Mnemonic;
 
 // What it takes from the stack and gives, the top at the right; T and U stand for the letters T and T2.
@@ -32,6 +32,7 @@ pub(crate) fn effect(mnemonic: Mnemonic) -> &'static str {
     }
 }
 
+// What it does.
 pub(crate) fn meaning(mnemonic: Mnemonic) -> &'static str {
     match mnemonic {
         Mnemonic::Add => "sum",

@@ -1,12 +1,12 @@
 // Lists the table on standard input for people.
 #![tactic(auto)]
 
-use anyhow::anyhow;
+use anyhow::bail;
 use lister::text::list_table;
 use std::env;
 use std::io::{Read, Write};
 
-const HELP: &'static str = "listing: a table for people to read
+const HELP: &str = "listing: a table for people to read
 
   listing < TABLE     lists the table text on standard input: its procedures with their data cells,
                       then its instructions, each with its effect on the stack
@@ -33,7 +33,7 @@ fn run(rt: &HostRuntime) -> anyhow::Result<()> {
     let mut input = rt.stdin();
     input.read_to_end(&mut text)?;
     if text.len() > MOST_BYTES {
-        return Err(anyhow!("the text has more than 1,048,576 bytes"));
+        bail!("the text has more than 1,048,576 bytes");
     }
     let listing = list_table(rt.alloc(), &text)?;
     rt.stdout().write_all(&listing)?;

@@ -11,7 +11,7 @@ use sheet::operation::{Arithmetic, Binary, Conversion, Numeric, Ordinal, Relatio
 use sheet::place::{CodePlace, StorePlace};
 use sheet::value::Value;
 
-// No TryFrom, here and below, since both types are of another crate.
+// A function, here and below: what it answers with None is no error, but an instruction without an operation.
 fn numeric(t: Option<Kind>) -> Option<Numeric>
     ensures { result ≡ d.numeric t }
 {

@@ -12,7 +12,7 @@ pub enum Ending {
 }
 
 impl Ending {
-    // A method, since `u8::from` would not say that it is the number of a refusal.
+    // A method, since `u8::from` would not say that it is the number of an ending.
     pub fn number(self) -> u8
         ensures { result ≡ ending_number self }
     {

@@ -3,8 +3,9 @@ use sheet::operation::{Binary, Unary};
 use sheet::place::CodePlace;
 use sheet::value::Value;
 
-// An instruction decoded: what it does, with its operands. Offsets and counts are narrow, so that one added to a
-// register has 32 bits. The operands have no names: the definitions pass a variant as a function of its operands.
+// An instruction decoded: what it does, with its operands.
+// Offsets and counts are narrow, so that one added to a register has 32 bits.
+// The operands have no names: the definitions pass a variant as a function of its operands.
 #[derive(Clone, Copy, Drop)]
 pub enum Operation {
     Two(Binary), // two values taken, one given

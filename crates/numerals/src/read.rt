@@ -3,9 +3,9 @@ ghost use Rattle.numerals.specs.Numbers.{digits_after, natural as unsigned_numbe
 ghost use Rattle.numerals.specs.Laws.{ReadNumbersWriteBack};
 
 // The widest column that any line has.
-const WIDEST: usize = 20;
+pub(crate) const WIDEST: usize = 20;
 
-// The number that the digits `s` write.
+// The number that the digits `s` write. Here and below a clause says the bound of 20: a struct for three small functions would be longer.
 fn digits(s: &[u8]) -> Option<u128>
     requires { length s.now ≤ 20 }
     ensures value { result ≡ digits_after 0 s.now }
@@ -14,10 +14,7 @@ fn digits(s: &[u8]) -> Option<u128>
     // A loop, since a try_fold's closure would say the same in more words.
     let mut n: u128 = 0;
     for b in s {
-        if !b.is_ascii_digit() {
-            return None;
-        }
-        n = n * 10 + u128::from(*b - b'0');
+        n = n * 10 + u128::from(char::from(*b).to_digit(10)?);
     }
     Some(n)
 }
@@ -34,7 +31,7 @@ fn natural(s: &[u8]) -> Option<u128>
     }
 }
 
-// There is no -0.
+// There is no -0. `n as i128`, since `try_from` would bring a refusal that cannot come: n is below 10 ^ 20.
 fn whole(s: &[u8]) -> Option<i128>
     requires { length s.now ≤ 20 }
     ensures { result ≡ signed_number s.now }

@@ -2,12 +2,14 @@ ghost use Rattle.std.specs.Prelude.{◌≡◌, ◌+◌, ◌++◌, length, replic
 ghost use Rattle.numerals.specs.Numbers.{write_number};
 ghost use Rattle.numerals.specs.Laws.{WrittenNumbersReadBack};
 
+use crate::read::WIDEST;
+
 // `n` at the end of 20 columns, and where it begins.
-fn write_natural(mut n: u64) -> ([u8; 20], usize)
+fn write_natural(mut n: u64) -> ([u8; WIDEST], usize)
     ensures place { result.1 + length (decimal n) ≡ 20 }
     ensures columns { result.0 ≡ replicate result.1 32 ++ decimal n }
 {
-    let mut columns = [b' '; 20];
+    let mut columns = [b' '; WIDEST];
     // By index, since a proof knows nothing of the columns that are written through a reversed `iter_mut`.
     for i in (0..columns.len()).rev() {
         columns[i] = b'0' + (n % 10) as u8;
@@ -20,7 +22,7 @@ fn write_natural(mut n: u64) -> ([u8; 20], usize)
 }
 
 // `z` in 20 columns.
-pub fn write_signed(z: i64) -> [u8; 20]
+pub fn write_signed(z: i64) -> [u8; WIDEST]
     ensures value { result ≡ write_number 20 z }
     ensures read { WrittenNumbersReadBack }
 {
@@ -32,7 +34,7 @@ pub fn write_signed(z: i64) -> [u8; 20]
 }
 
 // `n` in 20 columns.
-pub fn write_unsigned(n: u64) -> [u8; 20]
+pub fn write_unsigned(n: u64) -> [u8; WIDEST]
     ensures value { result ≡ write_number 20 (pos n) }
     ensures read { WrittenNumbersReadBack }
 {

@@ -1,18 +1,15 @@
 -- The scan passes exactly the rows that hold locally and fit, and names the first fault. Assumes nothing.
 use Rattle.std.proofs.Common.{◌≡◌, ℕ, zero, suc, ◌+◌, ◌-◌, ◌<◌, ◌≤◌, Bool, true, false, eqb, ◌⊎◌, List, [], ◌∷◌, map, length, Some, None, Option, sym, refl, ap, ◌∙◌, subst, inl, inr, add-one, arith}
-use native.Mathlib.Decide.{ℕ_discrete, dec_lt}
-use lib.ListN.{get_or-eq_default}
+use native.Mathlib.Decide.{ℕ_discrete}
 use Rattle.std.proofs.lemmas.Bool.{eqb-true, eq-eqb, ne_eqb}
+use Rattle.std.proofs.lemmas.Option.{none-some}
 use Rattle.paths.specs.Lists.{In, All, Distinct}
 use Rattle.paths.specs.Flows.{Hand, Transfer, breaks, hands_on, Met, keep, lower, clash, Flow, Below}
 use Rattle.paths.specs.Rows.{Rows, row_at, Held, Settled, Local}
 use Rattle.paths.specs.Admitting.{Fault, or_else, entry_is, entry_at, fault_of, hold_met, hold_at, hold_all, transfer_fault, row_fault, fit_fault, head_fault}
 use Rattle.paths.specs.Admitting.{fault_at, scan, admit}
 use Rattle.paths.specs.Admitted.{Apart, Fits, Admits, ScanLoop}
-use Rattle.paths.proofs.Lists.{all_of, all_in}
-
-clash_of : {A : Type 0} (a : A) → ◌≡◌ {A = Option A} (Some a) None → ⊥
-clash_of a e = let z : ◌≡◌ {A = ℕ} 0 1 = cc in omega arith
+use Rattle.paths.proofs.Lists.{all_of, all_in, row_low}
 
 or_left : {F : Type 0} (x y : Fault F) → or_else x y ≡ None → x ≡ None
 unfolding or_else
@@ -37,7 +34,7 @@ or_first (Some x) y v e = inl e
 -- an entry is in the list of entries
 entry_in : {R : Type 0} (es : List (Hand R)) (i : ℕ) (p : R) → entry_at es i ≡ Some p → In (i, p) es
 unfolding entry_at entry_is
-entry_in [] i p e = absurd (clash_of p (sym e))
+entry_in [] i p e = absurd (none-some p e)
 entry_in (h ∷ es) i p e = see (eqb h.0 i) refl e (entry_in es i p)
   where
     see : (b : Bool) → eqb h.0 i ≡ b → entry_is b h.1 (entry_at es i) ≡ Some p → (entry_at es i ≡ Some p → In (i, p) es) → In (i, p) (h ∷ es)
@@ -63,13 +60,13 @@ entries_apart (h ∷ es) d i p (inr m) =
 module _ {R F : Type 0} (ρ : Flow R F) (fit : ℕ → R → Option F) where
   held_of : (o : Option R) (j : ℕ) (s : R) → hold_at ρ o j s ≡ None → (q : R) × (o ≡ Some q) × Below ρ q s
   unfolding hold_at hold_met
-  held_of None j s e = absurd (clash_of _ e)
+  held_of None j s e = absurd (none-some _ (sym e))
   held_of (Some q) j s e = (q, refl, see (ρ.meet q s) refl e)
     where
       see : (m : Met R) → ρ.meet q s ≡ m → hold_met ρ m j ≡ None → ρ.meet q s ≡ keep
       see keep p f = p
-      see (lower t) p f = absurd (clash_of _ f)
-      see clash p f = absurd (clash_of _ f)
+      see (lower t) p f = absurd (none-some _ (sym f))
+      see clash p f = absurd (none-some _ (sym f))
 
   of_held : (o : Option R) (j : ℕ) (s : R) → ((q : R) × (o ≡ Some q) × Below ρ q s) → hold_at ρ o j s ≡ None
   unfolding hold_at hold_met
@@ -104,13 +101,13 @@ module _ {R F : Type 0} (ρ : Flow R F) (fit : ℕ → R → Option F) where
   module _ (rows : Rows R) (i : ℕ) where
     row_good : (o : Option R) → row_fault ρ rows i o ≡ None → (r : R) → o ≡ Some r → Settled ρ rows i r
     unfolding row_fault transfer_fault
-    row_good None e r p = absurd (clash_of r (sym p))
+    row_good None e r p = absurd (none-some r p)
     row_good (Some q) e r p =
         let z : q ≡ r = cc in
         subst (λ (x : R). Settled ρ rows i x) z (see (ρ.transfer i q) refl e)
       where
         see : (o : Transfer R F) → ρ.transfer i q ≡ o → transfer_fault ρ rows i o ≡ None → Settled ρ rows i q
-        see (breaks f) p e = absurd (clash_of _ e)
+        see (breaks f) p e = absurd (none-some _ (sym e))
         see (hands_on hs) p e = (hs, p, all_held rows hs e)
 
     good_row : (o : Option R) → ((r : R) → o ≡ Some r → Settled ρ rows i r) → row_fault ρ rows i o ≡ None
@@ -120,18 +117,18 @@ module _ {R F : Type 0} (ρ : Flow R F) (fit : ℕ → R → Option F) where
 
     head_begun : (e : Option R) (o : Option R) → head_fault ρ fit e i o ≡ None → (p : R) → e ≡ Some p → (q : R) × (o ≡ Some q) × Below ρ q p
     unfolding head_fault
-    head_begun None o x p e = absurd (clash_of p (sym e))
+    head_begun None o x p e = absurd (none-some p e)
     head_begun (Some p') o x p e = let z : p' ≡ p = cc in subst (λ (y : R). (q : R) × (o ≡ Some q) × Below ρ q y) z (held_of o i p' x)
 
     fit_none : (f : Option F) → fault_of i f ≡ None → f ≡ None
     unfolding fault_of
     fit_none None e = refl
-    fit_none (Some f) e = absurd (clash_of _ e)
+    fit_none (Some f) e = absurd (none-some _ (sym e))
 
     head_fits : (e : Option R) (o : Option R) → head_fault ρ fit e i o ≡ None → e ≡ None → (r : R) → o ≡ Some r → fit i r ≡ None
     unfolding head_fault fit_fault
-    head_fits (Some p) o x n r e = absurd (clash_of p n)
-    head_fits None None x n r e = absurd (clash_of r (sym e))
+    head_fits (Some p) o x n r e = absurd (none-some p (sym n))
+    head_fits None None x n r e = absurd (none-some r e)
     head_fits None (Some q) x n r e = let z : q ≡ r = cc in subst (λ (y : R). fit i y ≡ None) z (fit_none (fit i q) x)
 
     good_head : (e : Option R) (o : Option R) → ((p : R) → e ≡ Some p → (q : R) × (o ≡ Some q) × Below ρ q p)
@@ -183,7 +180,7 @@ module _ {R F : Type 0} (ρ : Flow R F) (fit : ℕ → R → Option F) where
 
   scan_first : (rows : Rows R) (k i : ℕ) (v : F × ℕ) → scan ρ fit rows i k ≡ Some v → First rows i k v
   unfolding scan
-  scan_first rows zero i v e = absurd (clash_of v (sym e))
+  scan_first rows zero i v e = absurd (none-some v e)
   scan_first rows (suc k) i v e = see (or_first (fault_at ρ fit rows i) (scan ρ fit rows (suc i) k) v e) (scan_first rows k (suc i) v)
     where
       see : (fault_at ρ fit rows i ≡ Some v) ⊎ ((fault_at ρ fit rows i ≡ None) × (scan ρ fit rows (suc i) k ≡ Some v))
@@ -228,17 +225,15 @@ module _ {R F : Type 0} (ρ : Flow R F) (fit : ℕ → R → Option F) where
       here : (rows : Rows R) → length rows ≡ ρ.size → scan ρ fit rows 0 ρ.size ≡ None → (j : ℕ) → j < ρ.size → GoodAt rows j
       here rows w e j l = good_of rows j (scan_all rows ρ.size 0 e j (omega arith) (omega arith))
 
-      -- a row past the table is none
-      low : (rows : Rows R) → length rows ≡ ρ.size → (j : ℕ) (r : R) → row_at rows j ≡ Some r → Dec (j < ρ.size) → j < ρ.size
-      low rows w j r e (yes l) = l
-      low rows w j r e (no n) = absurd (clash_of r (sym e ∙ get_or-eq_default rows None (omega arith)))
+      low : (rows : Rows R) → length rows ≡ ρ.size → (j : ℕ) (r : R) → row_at rows j ≡ Some r → j < ρ.size
+      low rows w j r e = rw (← w) (row_low rows j r e)
 
       holds : (rows : Rows R) → length rows ≡ ρ.size → scan ρ fit rows 0 ρ.size ≡ None → Local ρ rows × Fits ρ fit rows
       holds rows w e = (
         record {
           wide = w;
           entered = all_of (Held ρ rows) ρ.entries (λ h m. (here rows w e h.0 (all_in (λ h. h.0 < ρ.size) ρ.entries h starts m)).begun h.1 (apart h.0 h.1 m));
-          kept = λ i r f. (here rows w e i (low rows w i r f (dec_lt i ρ.size))).kept r f;
+          kept = λ i r f. (here rows w e i (low rows w i r f)).kept r f;
         },
-        λ i r n f. (here rows w e i (low rows w i r f (dec_lt i ρ.size))).fits r n f,
+        λ i r n f. (here rows w e i (low rows w i r f)).fits r n f,
       )

@@ -6,8 +6,7 @@ use Rattle.paths.specs.Judging.{Progress, going, refused, judge}
 use Rattle.paths.specs.Invariants.{Closed, Caused, Keeps}
 use Rattle.paths.specs.Exact.{Accepts}
 use Rattle.paths.specs.Greatest.{Solves}
-use Rattle.paths.proofs.Lists.{all_of}
-use Rattle.paths.proofs.Judging.{judge_keeps}
+use Rattle.paths.proofs.Judging.{anything_closed, judge_keeps}
 use Rattle.paths.proofs.Covers.{step_down, covers, keeps}
 use Rattle.paths.proofs.Counts.{counts_rows}
 use Rattle.paths.proofs.Entering.{judge_empties}
@@ -56,19 +55,12 @@ module _ {R F : Type 0} (ρ : Flow R F) (law : Lawful ρ) where
       accepted (going rows work) e o = (rows, work, e)
       accepted (refused f i) e o = absurd (never f i o)
 
-    -- anything at all is closed, so what is accepted holds locally
-    anything : Closed ρ (λ i r. Unit {0})
-    anything = record {
-      begins = all_of (λ h. Unit {0}) ρ.entries (λ h m. tt);
-      goes = λ i r hs b o. all_of (λ h. Unit {0}) hs (λ h m. tt);
-      meets = λ i q s t a b m. tt;
-    }
-
     abbrev Leaves : Progress R F → Type 0
     Leaves = Keeps ρ (λ i r. Unit {0})
 
+    -- what is accepted holds locally
     held : (rows : Rows R) (work : List ℕ) → judge ρ ≡ going rows work → Local ρ rows
-    held rows work e = (subst Leaves e (judge_keeps ρ law (λ i r. Unit {0}) anything)).0
+    held rows work e = (subst Leaves e (judge_keeps ρ law (λ i r. Unit {0}) (anything_closed ρ))).0
 
     pub judge_solves : Solves ρ
     judge_solves = record {

@@ -3,16 +3,25 @@ use Rattle.std.proofs.Common.{◌≡◌, ℕ, zero, suc, ◌+◌, ◌<◌, ◌�
 use native.Mathlib.Decide.{ℕ_discrete}
 use lib.ListN.{length-replicate}
 use Rattle.std.proofs.lemmas.List.{get_or-set_same, get_or-set_other}
+use Rattle.std.proofs.lemmas.Option.{none-some}
 use Rattle.paths.specs.Lists.{In, All}
 use Rattle.paths.specs.Flows.{Hand, Transfer, breaks, hands_on, Met, keep, lower, clash, Flow, Below, Lawful}
 use Rattle.paths.specs.Rows.{Rows, row_at, Held, Settled, Local}
 use Rattle.paths.specs.Judging.{Progress, going, refused, then, wait}
 use Rattle.paths.specs.Judging.{hand_met, hand_at, hand, hand_all, judge_by, judge_at, judge_one, run, load, weight, settle, enter, judge}
 use Rattle.paths.specs.Invariants.{Cases, Closed, Caused, Sound}
-use Rattle.paths.proofs.Lists.{none_some, all_map, row_at_replicate}
+use Rattle.paths.proofs.Lists.{all_map, all_of, row_at_replicate}
 use Rattle.paths.proofs.Works.{wait_in, wait_more, wait_short}
 
 module _ {R F : Type 0} (ρ : Flow R F) where
+  -- anything at all is closed
+  pub anything_closed : Closed ρ (λ i r. Unit {0})
+  anything_closed = record {
+    begins = all_of (λ h. Unit {0}) ρ.entries (λ h m. tt);
+    goes = λ i r hs b o. all_of (λ h. Unit {0}) hs (λ h m. tt);
+    meets = λ i q s t a b m. tt;
+  }
+
   weight_set : (rows : Rows R) (j : ℕ) (x : Option R) → j < length rows → weight ρ (set rows j x) + load ρ (row_at rows j) ≡ weight ρ rows + load ρ x
   unfolding weight
   weight_set [] j x h = absurd (not-suc-le-zero h)
@@ -129,7 +138,7 @@ module _ {R F : Type 0} (ρ : Flow R F) where
 
           see : (o : Option R) → row_at rows j ≡ o → Cases (Handed rows work (j, s)) (Caused ρ B) (hand_at ρ o rows work j s)
           see None e =
-              put_post rows work j s s h snd b (λ q f. absurd (none_some q (row_at rows j) e f))
+              put_post rows work j s s h snd b (λ q f. absurd (none-some q (sym e ∙ f)))
               (let v = law.small s in rw e (omega arith)) (law.same s) (j ∷ work) (inl refl) (λ k i. inr i) (omega arith)
           see (Some q) e = meeting q e (ρ.meet q s) refl
 
@@ -187,7 +196,7 @@ module _ {R F : Type 0} (ρ : Flow R F) where
               ))
 
           see : (o : Option R) → row_at rows i ≡ o → Cases (Judged rows work) (Caused ρ B) (judge_at ρ o i rows work)
-          see None e = (later_same rows work, λ k q f. other k q (λ p. absurd (none_some q (row_at rows k) (rw p e) f)) (opn k q f), snd)
+          see None e = (later_same rows work, λ k q f. other k q (λ p. absurd (none-some q (sym (rw p e) ∙ f))) (opn k q f), snd)
           see (Some r) e = outcome r e (ρ.transfer i r) refl
 
       -- a run to the end
@@ -262,8 +271,8 @@ module _ {R F : Type 0} (ρ : Flow R F) where
       unfolding judge
       judge_keeps =
           post_map (λ rows work. Done empty rows × All (Held ρ rows) ρ.entries) (λ rows work. Local ρ rows × SoundBy rows) (Caused ρ B) (enter ρ ρ.entries empty)
-          (enter_post ρ.entries empty wide (λ k q e. absurd (none_some q (row_at empty k) (row_at_replicate ρ.size k) e))
-          (λ k q e. absurd (none_some q (row_at empty k) (row_at_replicate ρ.size k) e)) law.inside.starts cl.begins)
+          (enter_post ρ.entries empty wide (λ k q e. absurd (none-some q (sym (row_at_replicate ρ.size k) ∙ e)))
+          (λ k q e. absurd (none-some q (sym (row_at_replicate ρ.size k) ∙ e))) law.inside.starts cl.begins)
           (λ rows work x. (record { wide = x.0.long ∙ wide; entered = x.1; kept = x.0.settled }, x.0.sound))
         where
           empty : Rows R

@@ -1,12 +1,19 @@
 -- Facts on lists. Assumes nothing.
-use Rattle.std.proofs.Common.{◌≡◌, ℕ, zero, suc, ◌<◌, ◌≤◌, Bool, true, false, eqb, List, [], ◌∷◌, length, replicate, Some, None, Option, sym, refl, ◌∙◌, subst, inl, inr, ⊎_elim, not-suc-le-zero, arith}
-use native.Mathlib.Decide.{ℕ_discrete}
+use Rattle.std.proofs.Common.{◌≡◌, ℕ, zero, suc, ◌<◌, ◌≤◌, Bool, true, false, eqb, List, [], ◌∷◌, length, replicate, Some, None, sym, refl, ◌∙◌, subst, inl, inr, ⊎_elim, not-suc-le-zero, arith}
+use native.Mathlib.Decide.{ℕ_discrete, dec_lt}
+use lib.ListN.{get_or-eq_default}
 use Rattle.std.proofs.lemmas.Bool.{eqb-true, eqb-false}
+use Rattle.std.proofs.lemmas.Option.{none-some}
 use Rattle.paths.specs.Lists.{In, All, Distinct}
-use Rattle.paths.specs.Rows.{row_at}
+use Rattle.paths.specs.Rows.{Rows, row_at}
 
-pub none_some : {A : Type 0} (a : A) (o : Option A) → o ≡ None → o ≡ Some a → ⊥
-none_some a o p q = let z : ◌≡◌ {A = ℕ} 0 1 = cc in omega arith
+-- a row past the list is none
+pub row_low : {R : Type 0} (rows : Rows R) (k : ℕ) (r : R) → row_at rows k ≡ Some r → k < length rows
+row_low rows k r e = see (dec_lt k (length rows))
+  where
+    see : Dec (k < length rows) → k < length rows
+    see (yes l) = l
+    see (no n) = absurd (none-some r (sym (get_or-eq_default rows None (omega arith)) ∙ e))
 
 pub all_map : {A : Type 0} (P Q : A → Type 0) (xs : List A) → ((x : A) → P x → Q x) → All P xs → All Q xs
 all_map P Q [] f a = tt

@@ -4,10 +4,10 @@ use Rattle.paths.specs.Lists.{All}
 use Rattle.paths.specs.Flows.{Transfer, breaks, hands_on, Flow, Lawful}
 use Rattle.paths.specs.Rows.{Rows, row_at, Held}
 use Rattle.paths.specs.Judging.{Progress, going, refused, then, hand, hand_all, judge_by, judge_at, judge_one, run, weight, settle}
-use Rattle.paths.specs.Invariants.{Cases, Closed, Caused}
+use Rattle.paths.specs.Invariants.{Cases, Caused}
 use Rattle.paths.specs.Loops.{Order, WorkLoop}
 use Rattle.paths.proofs.Lists.{all_of}
-use Rattle.paths.proofs.Judging.{Later, later_same, hand_all_post, post_map}
+use Rattle.paths.proofs.Judging.{anything_closed, Later, later_same, hand_all_post, post_map}
 use Rattle.paths.proofs.Entering.{then_on, then_out, then_came}
 use Rattle.paths.proofs.Ready.{work_short, work_room, hand_ready, judge_one_ready}
 
@@ -42,19 +42,12 @@ module _ {R F : Type 0} (ρ : Flow R F) (law : Lawful ρ) where
   unfolding judge_one judge_at judge_by
   judge_one_later i rows work w = see (row_at rows i)
     where
-      any : Closed ρ (λ i r. Unit {0})
-      any = record {
-        begins = all_of (λ h. Unit {0}) ρ.entries (λ h m. tt);
-        goes = λ i r hs b o. all_of (λ h. Unit {0}) hs (λ h m. tt);
-        meets = λ i q s t a b m. tt;
-      }
-
       outcome : (r : R) (o : Transfer R F) → ρ.transfer i r ≡ o → Cases (Later ρ rows work) (Caused ρ (λ i r. Unit {0})) (judge_by ρ o i rows work)
       outcome r (breaks f) o = inl (r, tt, o)
       outcome r (hands_on hs) o =
           post_map ρ (λ rows' work'. Later ρ rows work rows' work' × All (Held ρ rows') hs × ((k : ℕ) (q : R) → row_at rows' k ≡ Some q → Unit {0}))
           (Later ρ rows work) (Caused ρ (λ i r. Unit {0})) (hand_all ρ hs rows work)
-          (hand_all_post ρ law (λ i r. Unit {0}) any hs rows work w (law.inside.goes i r hs o) (λ k q e. tt) (all_of (λ h. Unit {0}) hs (λ h m. tt)))
+          (hand_all_post ρ law (λ i r. Unit {0}) (anything_closed ρ) hs rows work w (law.inside.goes i r hs o) (λ k q e. tt) (all_of (λ h. Unit {0}) hs (λ h m. tt)))
           (λ rows' work' x. x.0)
 
       see : (o : Option R) → Cases (Later ρ rows work) (Caused ρ (λ i r. Unit {0})) (judge_at ρ o i rows work)

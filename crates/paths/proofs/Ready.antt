@@ -1,25 +1,17 @@
 -- The work list never holds more than there are instructions. Assumes nothing.
-use Rattle.std.proofs.Common.{◌≡◌, ℕ, ◌<◌, ◌≤◌, ◌⊎◌, List, [], ◌∷◌, length, set, Some, None, Option, refl, ◌∙◌, inl, inr, ⊎_elim, arith, length-set}
-use native.Mathlib.Decide.{ℕ_discrete, dec_lt}
-use lib.ListN.{get_or-eq_default}
+use Rattle.std.proofs.Common.{◌≡◌, ℕ, ◌<◌, ◌≤◌, ◌⊎◌, List, [], ◌∷◌, length, set, Some, None, Option, sym, refl, ◌∙◌, inl, inr, ⊎_elim, length-set}
+use native.Mathlib.Decide.{ℕ_discrete}
 use Rattle.std.proofs.lemmas.List.{get_or-set_same, get_or-set_other}
+use Rattle.std.proofs.lemmas.Option.{none-some}
 use Rattle.paths.specs.Lists.{In, All}
 use Rattle.paths.specs.Flows.{Hand, Transfer, breaks, hands_on, Met, keep, lower, clash, Flow, Lawful}
 use Rattle.paths.specs.Rows.{Rows, row_at}
 use Rattle.paths.specs.Judging.{hand_met, hand_at, hand, hand_all, judge_by, judge_at, judge_one}
 use Rattle.paths.specs.Invariants.{Cases}
 use Rattle.paths.specs.Loops.{Ready, StillReady}
-use Rattle.paths.proofs.Lists.{none_some, pigeons}
+use Rattle.paths.proofs.Lists.{row_low, pigeons}
 use Rattle.paths.proofs.Works.{wait_distinct, wait_only}
 use Rattle.paths.proofs.Judging.{then_post, post_map}
-
--- a row past the list is none
-row_low : {R : Type 0} (rows : Rows R) (k : ℕ) (r : R) → row_at rows k ≡ Some r → k < length rows
-row_low rows k r e = see (dec_lt k (length rows))
-  where
-    see : Dec (k < length rows) → k < length rows
-    see (yes l) = l
-    see (no n) = absurd (none_some r (row_at rows k) (get_or-eq_default rows None (omega arith)) e)
 
 pub work_short : {R : Type 0} (rows : Rows R) (work : List ℕ) → Ready rows work → length work ≤ length rows
 work_short rows work y = pigeons (length rows) work y.distinct (λ k i. let x = y.rowed k i in row_low rows k x.0 x.1)
@@ -27,7 +19,7 @@ work_short rows work y = pigeons (length rows) work y.distinct (λ k i. let x = 
 -- one more can wait where an instruction has no row yet
 pub work_room : {R : Type 0} (rows : Rows R) (work : List ℕ) (j : ℕ) → Ready rows work → j < length rows → row_at rows j ≡ None → length work < length rows
 work_room rows work j y l e =
-    pigeons (length rows) (j ∷ work) (λ m. let x = y.rowed j m in none_some x.0 (row_at rows j) e x.1, y.distinct)
+    pigeons (length rows) (j ∷ work) (λ m. let x = y.rowed j m in none-some x.0 (sym e ∙ x.1), y.distinct)
     (λ k i. ⊎_elim (λ p. rw p l) (λ m. let x = y.rowed k m in row_low rows k x.0 x.1) i)
 
 module _ {R F : Type 0} (ρ : Flow R F) where
@@ -57,7 +49,7 @@ module _ {R F : Type 0} (ρ : Flow R F) where
 
       see : (o : Option R) → row_at rows j ≡ o → Cases (StillReady rows) Any (hand_at ρ o rows work j s)
       see None e = (
-        record { distinct = (λ i. let x = y.rowed j i in none_some x.0 (row_at rows j) e x.1, y.distinct); rowed = λ k i. put rows work j s h y.rowed k i },
+        record { distinct = (λ i. let x = y.rowed j i in none-some x.0 (sym e ∙ x.1), y.distinct); rowed = λ k i. put rows work j s h y.rowed k i },
         length-set rows j (Some s),
       )
       see (Some q) e = meeting (ρ.meet q s)

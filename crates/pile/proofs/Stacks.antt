@@ -1,10 +1,10 @@
 -- What one step at the top does to the list held. Assumes nothing.
-use Rattle.std.proofs.Common.{◌≡◌, ℕ, ◌+◌, ◌-◌, ◌<◌, ◌≤◌, min, List, [], ◌∷◌, ◌++◌, reverse, length, get_or, take, drop, set, replicate, Some, None, sym, refl, ap, ◌∙◌, subst, append_assoc, arith}
+use Rattle.std.proofs.Common.{◌≡◌, ℕ, ◌+◌, ◌-◌, ◌<◌, ◌≤◌, List, [], ◌∷◌, ◌++◌, reverse, length, get_or, take, drop, set, replicate, Some, None, sym, refl, ap, ◌∙◌, subst, append_assoc, arith}
 use native.Mathlib.Decide.{dec_lt}
 use Rattle.std.specs.List.{slice_get}
 use Rattle.std.proofs.lemmas.List.{take_more, drop_more, set-append_right, length-replicate, replicate_more, reverse-append, length-reverse, length-take-le}
 use Rattle.pile.specs.declared.Pile.{Pile}
-use Rattle.pile.specs.Piles.{held, bottom_first, places_of, depth, room, blanked}
+use Rattle.pile.specs.Piles.{held, bottom_first, places_of, depth, room}
 
 last_off : {X : Type 0} (xs : List X) (n : ℕ) (d : X) → 0 < n → n ≤ length xs
     → take n xs ≡ take (n - 1) xs ++ get_or xs (n - 1) d ∷ []
@@ -37,9 +37,6 @@ below_top {X} xs n x h e = see (dec_lt 0 n)
 pub length_held : {X : Type 0} (p : Pile X) → length (held p) ≡ depth p
 length_held p = length-reverse (bottom_first p) ∙ length-take-le (depth p) (places_of p) p.ok
 
-pub length_bottom_first : {X : Type 0} (p : Pile X) → length (bottom_first p) ≡ depth p
-length_bottom_first p = length-take-le (depth p) (places_of p) p.ok
-
 pub depth_in_room : {X : Type 0} (p : Pile X) → depth p ≤ room p
 depth_in_room p = p.ok
 
@@ -58,7 +55,3 @@ fill_more xs i x h =
     let b : set (drop i xs) 0 x ≡ x ∷ drop (i + 1) xs = rw (drop_more xs i x) in
     a ∙ ap (λ k. replicate i x ++ set (drop i xs) k x) z ∙ ap (λ l. replicate i x ++ l) b
     ∙ sym (append_assoc (replicate i x) (x ∷ []) (drop (i + 1) xs)) ∙ ap (λ l. l ++ drop (i + 1) xs) (replicate_more i x)
-
--- for callers that lend places enough
-pub blanked_whole : {X : Type 0} (n : ℕ) (x : X) (xs : List X) → n ≤ length xs → blanked n x xs ≡ replicate n x ++ drop n xs
-blanked_whole n x xs h = let z : min n (length xs) ≡ n = omega arith in ap (λ k. replicate k x ++ drop k xs) z

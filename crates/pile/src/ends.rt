@@ -25,7 +25,7 @@ impl<'a, T: Copy> Pile<'a, T> {
         ensures places { MatchResult result (λ _. places_of self.new ≡ slice_set (places_of self.old) (depth self.old) x) (λ _. places_of self.new ≡ places_of self.old) }
         ensures room { room self.new ≡ room self.old }
     {
-        // by its index, since a `get_mut` does not tell what the places end as
+        // By its index, since `get_mut` does not tell what the places end as.
         if self.taken < self.places.len() {
             self.places[self.taken] = x;
             self.taken += 1;

@@ -7,7 +7,7 @@ pub fn blank<T: Copy>(places: &mut [T], n: usize, x: T)
     ensures { places.new ≡ blanked n x places.old }
 {
     let end = n.min(places.len());
-    // `fill` asks for a clone that cannot fail, which `Copy` does not promise
+    // Not `fill`, which asks for a clone that cannot fail: `Copy` does not promise that.
     for place in &mut places[..end] {
         *place = x;
     }

@@ -1,2 +1,2 @@
 mod Fitting
-mod Reading
+pub mod Reading

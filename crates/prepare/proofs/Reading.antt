@@ -27,18 +27,13 @@ front_is (x ∷ xs) (y ∷ ys) h = ap (λ zs. x ∷ zs) (front_is xs ys (omega a
 front_of : {X : Type 0} (xs ys zs : List X) (n : ℕ) → length xs ≤ length ys → n ≡ length xs → zs ≡ laid xs ys → take n zs ≡ xs
 front_of xs ys zs n h e l = ap (take n) l ∙ ap (λ k. take k (laid xs ys)) e ∙ front_is xs ys h
 
--- the records that were read fit the lists
-module _ (text : List ℕ) (ps : List Procedure) (ts : List Kind) (is : List Instruction) (e : Extent) where
-  fits_by : (v : Result (Unit {0}) TextFault) → verdict (room_of ps ts is) text ≡ v → Ok e ≡ answered (read_by v text)
-      → (e.procedures ≤ length ps) × (e.cells ≤ length ts) × (e.code ≤ length is)
-  fits_by (Err f) q a = let z : ◌≡◌ {A = ℕ} 0 1 = cc in absurd (omega arith)
-  fits_by (Ok u) q a =
-      let f = read_fits (room_of ps ts is) text u q in
-      let x : e ≡ extent_of (contents (lines_of text)) = cc in
-      (omega (arith, f.0, ap (λ (y : Extent). y.procedures) x), omega (arith, f.1, ap (λ (y : Extent). y.cells) x), omega (arith, f.2, ap (λ (y : Extent). y.code) x))
-
-  pub fits : Ok e ≡ answered (read_table (room_of ps ts is) text) → (e.procedures ≤ length ps) × (e.cells ≤ length ts) × (e.code ≤ length is)
-  fits a = fits_by (verdict (room_of ps ts is) text) refl a
+-- a table whose lists are the fronts
+pub fronts_are : (U : Contents) (e : Extent) (ps : List Procedure) (ts : List Kind) (is : List Instruction) → U.procedures ≡ take e.procedures ps → U.cells ≡ take e.cells ts
+    → U.code ≡ take e.code is → U ≡ contents_in e ps ts is
+fronts_are U e ps ts is p t i =
+    ap (λ (y : List Procedure). record { procedures = y; cells = U.cells; code = U.code }) p
+    ∙ ap (λ (y : List Kind). record { procedures = take e.procedures ps; cells = y; code = U.code }) t
+    ∙ ap (λ (y : List Instruction). record { procedures = take e.procedures ps; cells = take e.cells ts; code = y }) i
 
 pub record Read (R : Result Contents TextFault) (e : Extent) (ps : List Procedure) (ts : List Kind) (is : List Instruction) : Type 0 where
   pub table : Contents

@@ -1,12 +1,14 @@
-ghost use Rattle.std.specs.Prelude.{◌≡◌};
-ghost use Rattle.prepare.specs.Faults.{number_of, place_of};
+ghost use Rattle.std.specs.Prelude.{◌≡◌, Some};
+ghost use Rattle.prepare.specs.Faults.{number_of, place_of, cause_of};
 ghost use Rattle.prepare.specs.declared.fault.PrepareFault.TheVariants.{Text, Table};
 
 use columns::fault::TextFault;
 use rules::fault::TableFault;
+use std::error::Error;
+use std::fmt;
 
 // Why no table is ready: the fault of the part that refused, whole.
-#[derive(Clone, Copy, Drop)]
+#[derive(Clone, Copy, PartialEq, Eq, Debug, Drop)]
 pub enum PrepareFault {
     Text(TextFault),
     Table(TableFault),
@@ -23,7 +25,7 @@ impl PrepareFault {
         }
     }
 
-    // The line, the procedure or the instruction that it names; 0 where it names none.
+    // The line, the procedure or the instruction that it names; 0 where it names none, since a refusal is written as two numbers.
     pub fn place(self) -> usize
         ensures { result ≡ place_of self }
     {
@@ -33,6 +35,20 @@ impl PrepareFault {
         }
     }
 }
+
+// The cause alone, in the words of the fault that it wraps; number and place go before it.
+impl fmt::Display for PrepareFault {
+    ghost output = { λ fault. Some (cause_of fault) };
+
+    fn fmt<W: fmt::Write>(&self, f: &mut fmt::Formatter<W>) -> fmt::Result {
+        match self {
+            PrepareFault::Text(fault) => fault.fmt(f),
+            PrepareFault::Table(fault) => fault.fmt(f),
+        }
+    }
+}
+
+impl Error for PrepareFault {}
 
 impl From<TextFault> for PrepareFault {
     ghost from_gives = { λ x y. y ≡ Text x };

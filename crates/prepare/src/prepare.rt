@@ -1,8 +1,7 @@
-ghost use Rattle.std.specs.Prelude.{◌≡◌, ◌≤◌, length};
+ghost use Rattle.std.specs.Prelude.{◌≡◌, length};
 ghost use Rattle.columns.specs.TableText.{read_table, room_of, procedures_left, cells_left, code_left};
-ghost use Rattle.rules.specs.Lookups.{contents_of};
 ghost use Rattle.judge.specs.Handing.{meanings};
-ghost use Rattle.prepare.specs.Preparing.{contents_in, prepared, rows_left, places_left, RecordsKept};
+ghost use Rattle.prepare.specs.Preparing.{prepared, rows_left, places_left, RecordsKept};
 
 use crate::fault::PrepareFault;
 use columns::table_text::{Extent, read_table};
@@ -11,32 +10,12 @@ use rows::row::Row;
 use sheet::instruction::Instruction;
 use sheet::kind::Kind;
 use sheet::procedure::Procedure;
-use sheet::table::Table;
 
 // A table that was read and judged: how many records of each list it has, and how many instructions have rows.
 #[derive(Clone, Copy, Drop)]
 pub struct Prepared {
     pub extent: Extent,
     pub reached: usize,
-}
-
-// The table that the front of each list holds.
-fn table_in<'a>(
-    extent: Extent,
-    procedures: &'a [Procedure],
-    cells: &'a [Kind],
-    code: &'a [Instruction],
-) -> Table<'a>
-    requires procedures { extent.procedures ≤ length procedures.now }
-    requires cells { extent.cells ≤ length cells.now }
-    requires code { extent.code ≤ length code.now }
-    ensures { contents_of result ≡ contents_in extent procedures.now cells.now code.now }
-{
-    Table {
-        procedures: &procedures[..extent.procedures],
-        cells: &cells[..extent.cells],
-        code: &code[..extent.code],
-    }
 }
 
 // Reads a table's text into the three lists lent for it, then judges the table. A table once read stays in its lists.
@@ -58,7 +37,7 @@ pub fn prepare(
     ensures places { places.new ≡ places_left (read_table (room_of procedures.old cells.old code.old) text.now) (length rows.old) places.old }
 {
     let extent = read_table(text, procedures, cells, code)?;
-    let table = table_in(extent, procedures, cells, code);
+    let table = extent.table_in(procedures, cells, code);
     let reached = judge(table, rows, places)?;
     Ok(Prepared { extent, reached })
 }

@@ -1,6 +1,5 @@
 -- The walks up the static links and along the parameters, a turn at a time.
-use Rattle.std.proofs.Common.{◌≡◌, ℕ, suc, ◌+◌, ◌-◌, ◌<◌, ◌≤◌, List, length, get_or, drop, Ok, Err, arith}
-use Rattle.std.proofs.lemmas.List.{drop_all, drop_more}
+use Rattle.std.proofs.Common.{◌≡◌, ℕ, suc, ◌+◌, ◌-◌, ◌<◌, ◌≤◌, List, [], ◌∷◌, length, Ok, Err, refl, arith}
 use Rattle.sheet.specs.declared.kind.Kind.{Kind}
 use Rattle.sheet.specs.declared.stop.Stop.{Stop}
 use Rattle.sheet.specs.declared.value.Value.{Value}
@@ -20,14 +19,15 @@ pub base_end : (cs : List Cell) (m n i x : ℕ) → n ≤ i → Ok x ≡ base (n
 unfolding base
 base_end cs m n i x h = let q : n - i ≡ 0 = omega arith in rw q
 
-pub passed_on : (ts : List Kind) (i : ℕ) (d : Kind) (x : ℕ) (cs : List Cell) (y : Value) → i < length ts → Ok y ≡ passes (get_or ts i d) (x + i) cs → passed (drop i ts) (x + i) cs ≡ passed (drop (i + 1) ts) (x + (i + 1)) cs
+pub passed_on : (t : Kind) (ts us : List Kind) (w x y : ℕ) (cs : List Cell) (v : Value) → us ≡ t ∷ ts → x ≡ w → y ≡ x + 1 → Ok v ≡ passes t x cs → passed ts y cs ≡ passed us w cs
 unfolding passed
-passed_on ts i d x cs y h e = let k : x + (i + 1) ≡ x + i + 1 = omega arith in rw (k, drop_more ts i d h, ← e)
+passed_on t ts us w x y cs v e m n q = rw (e, n, ← m, ← q) refl
 
-pub passed_off : (ts : List Kind) (i : ℕ) (d : Kind) (x : ℕ) (cs : List Cell) (e : Stop) → i < length ts → Err e ≡ passes (get_or ts i d) x cs → Err e ≡ passed (drop i ts) x cs
+pub passed_off : (t : Kind) (ts us : List Kind) (w x : ℕ) (cs : List Cell) (f : Stop) → us ≡ t ∷ ts → x ≡ w → Err f ≡ passes t x cs → Err f ≡ passed us w cs
 unfolding passed
-passed_off ts i d x cs e h q = rw (drop_more ts i d h, ← q)
+passed_off t ts us w x cs f e m q = rw (e, ← m, ← q) refl
 
-pub passed_end : (ts : List Kind) (i x : ℕ) (cs : List Cell) → length ts ≤ i → Ok tt ≡ passed (drop i ts) x cs
+pub passed_end : (us : List Kind) (x : ℕ) (cs : List Cell) → length us ≡ 0 → Ok tt ≡ passed us x cs
 unfolding passed
-passed_end ts i x cs h = rw (drop_all i ts h)
+passed_end [] x cs h = refl
+passed_end (t ∷ ts) x cs h = absurd (omega arith)

@@ -1,6 +1,6 @@
-// Cells read from the store, and values read from cells.
+// Cells read from the store and written into it, and values read from cells.
 ghost use Rattle.std.specs.Prelude.{◌≡◌};
-ghost use Rattle.store.specs.Cells.{peek};
+ghost use Rattle.store.specs.Cells.{peek, put};
 ghost use Rattle.machine.specs.Leaves.{working_in, mark_in, place_in, of_kind, held, writable, stacked, typed, reached};
 
 use sheet::kind::Kind;
@@ -16,6 +16,13 @@ pub fn cell_at<S: Store>(store: &S, x: u32) -> Cell
     ensures { result ≡ peek (S.cells store.now) x }
 {
     store.read(Slot(x)).unwrap_or(Cell::Free)
+}
+
+// Cell x becomes this one; past the end nothing changes.
+pub fn put_at<S: Store>(store: &mut S, x: u32, cell: Cell)
+    ensures { S.cells store.new ≡ put (S.cells store.old) x cell }
+{
+    let _ = store.write(Slot(x), cell);
 }
 
 pub(crate) fn of_kind(cause: Stop, kind: Kind, x: Value) -> Result<Value, Stop>
@@ -50,6 +57,7 @@ pub fn place_in(cell: Cell) -> Result<u32, Stop>
 }
 
 // The value of a data cell; `absent` where it is none, `other` where it has another kind.
+// Two causes, here and at `writable`, and no struct: nothing else takes both.
 pub fn held_in(absent: Stop, other: Stop, kind: Kind, cell: Cell) -> Result<Value, Stop>
     ensures { result ≡ held absent other kind cell }
 {
@@ -73,7 +81,7 @@ pub fn writable(absent: Stop, other: Stop, kind: Kind, cell: Cell) -> Result<(),
     if own == kind { Ok(()) } else { Err(other) }
 }
 
-// The working value i cells below the top; of the store and its height, as a caller may have no machine.
+// The working value i cells below the top. A machine in place of a store and a height would ask more of a caller.
 pub fn stacked_at<S: Store>(store: &S, height: u32, i: u32) -> Result<Value, Stop>
     ensures { result ≡ stacked height i (S.cells store.now) }
 {

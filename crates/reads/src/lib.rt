@@ -1,4 +1,4 @@
-// What an instruction reads from the store.
+// What an instruction reads from the store, and the write of one cell.
 #![tactic(auto)]
 
 pub mod cells;

@@ -11,10 +11,10 @@ fn link_of<S: Store>(store: &S, x: u16, mp: u16) -> Result<u16, Stop>
     ensures { result ≡ static_link x mp (S.cells store.now) }
 {
     let y = place_in(cell_at(store, u32::from(x) + 1))?;
-    if y >= u32::from(mp) {
-        return Err(Stop::WrongMark);
-    }
-    Ok(y as u16)
+    u16::try_from(y)
+        .ok()
+        .filter(|y| *y < mp)
+        .ok_or(Stop::WrongMark)
 }
 
 // The frame that many static links up from MP.

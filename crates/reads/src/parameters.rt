@@ -1,5 +1,5 @@
 // The parameters that a call passes.
-ghost use Rattle.std.specs.Prelude.{◌≡◌, ◌+◌, ◌^◌, ◌<◌, length};
+ghost use Rattle.std.specs.Prelude.{◌≡◌, ◌+◌};
 ghost use Rattle.rules.specs.Lookups.{contents_of};
 ghost use Rattle.machine.specs.Frames.{passes, passed as passed_from, parameter_kinds};
 
@@ -19,17 +19,6 @@ fn parameter_at<S: Store>(store: &S, kind: Kind, x: u32) -> Result<Value, Stop>
     of_kind(Stop::WrongCell, kind, working_in(cell_at(store, x))?)
 }
 
-// The cells from x up are working cells of these kinds.
-fn walk<S: Store>(store: &S, kinds: &[Kind], x: u32) -> Result<(), Stop>
-    requires room { x + length kinds.now < 2 ^ 32 }
-    ensures { result ≡ passed_from kinds.now x (S.cells store.now) }
-{
-    for (i, kind) in kinds.iter().enumerate() {
-        parameter_at(store, *kind, x + i as u32)?;
-    }
-    Ok(())
-}
-
 // The parameters of a procedure whose frame is at m are working cells of their kinds.
 pub fn passed<S: Store>(
     table: Table<'_>,
@@ -39,5 +28,9 @@ pub fn passed<S: Store>(
 ) -> Result<(), Stop>
     ensures { result ≡ passed_from (parameter_kinds (contents_of table.entry) procedure) (m + 5) (S.cells store.now) }
 {
-    walk(store, parameter_kinds(table, procedure), u32::from(m) + 5)
+    let first = u32::from(m) + 5;
+    for (kind, x) in parameter_kinds(table, procedure).iter().zip(first..) {
+        parameter_at(store, *kind, x)?;
+    }
+    Ok(())
 }

@@ -1,13 +1,8 @@
 -- Packing a stack into a row, one entry after another.
-use Rattle.std.proofs.Common.{◌≡◌, ℕ, suc, ◌+◌, ◌-◌, ◌<◌, List, [], ◌∷◌, ◌++◌, map, length, get_or, take, set, replicate, None, sym, ap, ◌∙◌, append_assoc, arith}
+use Rattle.std.proofs.Common.{◌≡◌, ℕ, suc, ◌+◌, ◌-◌, ◌<◌, List, [], ◌∷◌, ◌++◌, map, length, get_or, take, set, replicate, sym, ap, ◌∙◌, append_assoc, arith}
 use Rattle.std.proofs.lemmas.List.{take_more, map_push, set_at, length-map, length-take-le}
-use Rattle.std.proofs.lemmas.Bool.Decides.{nat_tests}
 use Rattle.rows.specs.declared.entry.Entry.{Entry}
 use Rattle.rows.specs.Entries.{byte_of}
-use Rattle.rows.specs.Rows.{packed}
-
-pub too_many : (es : List Entry) → 40 < length es → None ≡ packed es
-too_many es h = grind (arith, nat_tests)
 
 pub written_more : (es : List Entry) (i : ℕ) (d : Entry) (bytes : List ℕ) → i < 40 → i < length es
     → bytes ≡ map byte_of (take i es) ++ replicate (40 - i) 0 → set bytes i (byte_of (get_or es i d)) ≡ map byte_of (take (i + 1) es) ++ replicate (40 - (i + 1)) 0

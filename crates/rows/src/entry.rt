@@ -11,7 +11,8 @@ pub enum Entry {
     Mark(u8),
 }
 
-// The entry that a byte stands for; a byte of no entry reads as a mark that no stack has, where a line reader refuses.
+// The entry that a byte stands for; a byte of no entry reads as a mark that no stack has.
+// No TryFrom, and letters as bytes: rows are lent, so that a refusal would have to be told apart at every byte.
 impl From<u8> for Entry {
     ghost from_gives = { λ x y. y ≡ entry_of x };
 

@@ -1,17 +1,17 @@
-ghost use Rattle.std.specs.Prelude.{◌≡◌, ◌≤◌, true, T, map, length, ◌&&◌, nat_eq, IsTrue, ◌↔◌, All};
+ghost use Rattle.std.specs.Prelude.{◌≡◌, ◌≤◌, true, T, map, length, ◌&&◌, IsTrue, ◌↔◌, All};
 ghost use Rattle.std.specs.List.{slice_get};
 ghost use Rattle.rows.specs.Entries.{entry_of, proper};
-ghost use Rattle.rows.specs.Rows.{entries, same, equal_records, EqualRecordsAreOne, every, blanks, is_row, no_row, empty_row, packed};
+ghost use Rattle.rows.specs.Rows.{entries, same, equal_records, EqualRecordsAreOne, is_row, no_row, empty_row, packed};
 ghost use Rattle.pile.specs.Piles.{bottom_first};
 ghost use Rattle.std.specs.Cmp.Rules.{comparing};
-ghost use Rattle.std.specs.Cmp.Lexicographic.{pointwise};
 ghost use Rattle.std.proofs.Common.{rules};
 
 use crate::entry::Entry;
 use pile::Pile;
 
 // A record is a row where its length is at most forty, each byte before it is an entry and each byte past it is 0.
-// Any other record is unreached. So two rows are equal exactly where their records are. By value: it is copied and written whole.
+// Any other record is unreached. So two rows are equal exactly where their records are.
+// Forty bytes by value, and no Option: rows are lent records, copied and written whole, and whatever bytes they hold mean something.
 #[derive(Clone, Copy, Debug, Drop)]
 pub struct Row {
     len: u8,
@@ -36,6 +36,7 @@ impl PartialEq for Row {
     }
 }
 
+// By name, here and below: the contract ties the closure's answers to the rule, which `all` in place does not.
 fn all_proper(bytes: &[u8]) -> bool
     ensures { IsTrue result ↔ All (λ b. proper (entry_of b) ≡ true) bytes.now }
 {
@@ -70,10 +71,11 @@ impl Row {
     pub fn is_reached(self) -> bool
         ensures { result ≡ is_row self }
     {
-        match self.bytes.split_at_checked(self.len as usize) {
-            Some((entries, rest)) => all_proper(entries) && all_blank(rest),
-            None => false,
-        }
+        // By let-else: of `is_some_and` on two slices the check does not open what the closure answers.
+        let Some((entries, rest)) = self.bytes.split_at_checked(self.len as usize) else {
+            return false;
+        };
+        all_proper(entries) && all_blank(rest)
     }
 
     // How many entries it has; an unreached record may say any number.
@@ -103,11 +105,12 @@ impl Row {
         ensures { result ≡ packed (bottom_first stack.now) }
     {
         let entries = stack.as_slice();
+        // A plain test, and a cast below: of a `try_from` with a filter the check does not see that the bytes have room.
         if entries.len() > 40 {
             return None;
         }
         let mut bytes = [0; 40];
-        // by index, since a zip with `iter_mut` does not tell what the bytes end as
+        // By index, since a zip with `iter_mut` does not tell what the bytes end as
         for (i, entry) in entries.iter().enumerate() {
             if !entry.is_proper() {
                 return None;

@@ -1,4 +1,4 @@
--- The effects of a table without a fault are sound: the one place above the rules with a case for each mnemonic.
+-- The effects of a table without a fault are sound: the one place between the rules and the verifier with a case for each mnemonic.
 use Rattle.std.proofs.Common.{◌≡◌, ℕ, zero, suc, ◌+◌, ◌-◌, ◌<◌, ◌≤◌, ◌⊎◌, length, ℤ, Some, None, Option, sym, refl, ap, ◌∙◌, subst, inl, inr, arith}
 use Rattle.std.specs.Option.{option_or}
 use Rattle.std.proofs.lemmas.List.{get_or_past}

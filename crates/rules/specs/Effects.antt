@@ -5,8 +5,10 @@
 --   next: goes on with the next instruction
 --   halts: takes any stack and goes nowhere
 --   given: the result of a call, if any
+--   following: the next instruction's number, which is below 2 ^ 64
+--   successors: the instructions that a way leads to from instruction n, the label before the next one
 --   effect_by: the effect of a mnemonic as instruction n, with letters t and u and operands p and q
-use Rattle.std.specs.Prelude.{ℕ, Some, None, Option}
+use Rattle.std.specs.Prelude.{ℕ, ◌+◌, ◌^◌, cond, Some, None, Option, nat_lt}
 use Rattle.std.specs.Option.{unwrap_or}
 use Rattle.sheet.specs.declared.instruction.Instruction.{Instruction}
 use Rattle.sheet.specs.declared.kind.Kind.{Kind}
@@ -20,6 +22,7 @@ use Rattle.rules.specs.declared.effects.Takes.{Takes}
 use Rattle.rules.specs.declared.effects.Takes.TheVariants.{Kinds, Parameters, Call}
 use Rattle.rules.specs.declared.effects.Gives.{Gives}
 use Rattle.rules.specs.declared.effects.Gives.TheVariants.{Nothing, One, Two, Mark}
+use Rattle.rules.specs.declared.effects.Way.{Way}
 use Rattle.rules.specs.declared.effects.Way.TheVariants.{Halt, Next, Jump, Fork}
 use Rattle.rules.specs.Lookups.{procedure_at, owner, natural}
 
@@ -98,3 +101,12 @@ kind_in t = unwrap_or t Address
 
 abbrev pub effect_of : Contents → ℕ → Instruction → Effect
 effect_of T n x = effect_by T n (kind_in x.t) (kind_in x.t2) (natural x.p) (natural x.q) x.mnemonic
+
+abbrev pub following : ℕ → Option ℕ
+following n = cond (nat_lt (n + 1) (2 ^ 64)) (Some (n + 1)) None
+
+abbrev pub successors : Way → ℕ → Option ℕ × Option ℕ
+successors Halt n = (None, None)
+successors Next n = (following n, None)
+successors (Jump q) n = (Some q, None)
+successors (Fork q) n = (Some q, following n)

@@ -1,8 +1,9 @@
 -- The refusals of a table: the number and the place of each, and how one is answered. Assumes nothing.
 --   fault_number, fault_place: the number of a refusal, and the procedure or instruction that it names, 0 where none
+--   cause_of: the words for a refusal
 --   lowest: the lowest place at which a test fails, counted from i
 --   passed: the answer of a check that finds this fault, or none
-use Rattle.std.specs.Prelude.{ℕ, ◌+◌, Bool, cond, List, [], ◌∷◌, Some, None, Ok, Err, Option, Result}
+use Rattle.std.specs.Prelude.{ℕ, ◌+◌, Bool, cond, List, [], ◌∷◌, Some, None, Ok, Err, Option, Result, codes}
 use Rattle.rules.specs.declared.fault.TableFault.{TableFault}
 use Rattle.rules.specs.declared.fault.TableFault.TheVariants.{IllFormed, NotAllowed, WrongStack, StackTooHigh, StacksDiffer, PastTheEnd, TooFewPlaces, RowTooHigh}
 
@@ -25,6 +26,16 @@ fault_place (StacksDiffer n) = n
 fault_place (PastTheEnd n) = n
 fault_place TooFewPlaces = 0
 fault_place (RowTooHigh n) = n
+
+abbrev pub cause_of : TableFault → List ℕ
+cause_of (IllFormed n) = codes "a rule of tables is broken"
+cause_of (NotAllowed n) = codes "a letter or operand that is not allowed, or an ent, retf or retp out of place"
+cause_of (WrongStack n) = codes "the stack does not end in what the instruction takes"
+cause_of (StackTooHigh n) = codes "the stack given exceeds the cells that the procedure's ent allows"
+cause_of (StacksDiffer n) = codes "two stacks that meet differ"
+cause_of (PastTheEnd n) = codes "the next instruction lies past the procedure"
+cause_of TooFewPlaces = codes "fewer rows or places are lent than there are instructions"
+cause_of (RowTooHigh n) = codes "the row exceeds the cells that the procedure's ent allows"
 
 abbrev pub lowest : {X : Type 0} → (ℕ → X → Bool) → ℕ → List X → Option ℕ
 lowest test i [] = None

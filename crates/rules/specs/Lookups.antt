@@ -4,14 +4,16 @@
 --   ancestor: the j-th ancestor of procedure n; the 0th is itself, the next its parent, and none lies above procedure 0
 --   begun: how many procedures, from the first on, have a first instruction not above n
 --   owner: the procedure that instruction n lies in, the last of these
+--   cells_at: as many data cells from this offset on, as far as the list has them
 --   index: an operand as a number from 0 on, if it is one
 --   natural: the same, with a negative operand as 0
 --   enters: whether a mnemonic of this rule is ent
 --   room_at: how many cells of stack the ent of the procedure of instruction n allows, 0 where it has none
-use Rattle.std.specs.Prelude.{ℕ, zero, suc, ◌+◌, ◌-◌, Bool, true, false, cond, List, [], ◌∷◌, ℤ, pos, negsuc, Some, None, Option, nat_le, slice_index_or}
+use Rattle.std.specs.Prelude.{ℕ, zero, suc, ◌+◌, ◌-◌, Bool, true, false, cond, List, [], ◌∷◌, take, drop, ℤ, pos, negsuc, Some, None, Option, nat_le, slice_index_or}
 use Rattle.std.specs.List.{slice_get}
 use Rattle.std.specs.Option.{unwrap_or}
 use Rattle.sheet.specs.declared.instruction.Instruction.{Instruction}
+use Rattle.sheet.specs.declared.kind.Kind.{Kind}
 use Rattle.sheet.specs.declared.procedure.Procedure.{Procedure}
 use Rattle.sheet.specs.declared.shape.Rule.{Rule}
 use Rattle.sheet.specs.declared.shape.Rule.TheVariants as rule
@@ -40,6 +42,9 @@ begun i (P ∷ Ps) n = cond (nat_le P.first n) (begun (i + 1) Ps n) i
 
 abbrev pub owner : Contents → ℕ → ℕ
 owner T n = begun 0 T.procedures n - 1
+
+abbrev pub cells_at : Contents → (offset count : ℕ) → List Kind
+cells_at T offset count = take count (drop offset T.cells)
 
 abbrev pub index : ℤ → Option ℕ
 index (pos n) = Some n

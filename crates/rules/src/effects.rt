@@ -1,9 +1,9 @@
 ghost use Rattle.std.specs.Prelude.{◌≡◌};
 ghost use Rattle.rules.specs.Lookups.{contents_of};
-ghost use Rattle.rules.specs.Effects.{one, two, next as goes_on, calls, effect_of};
+ghost use Rattle.rules.specs.Effects.{one, two, next as goes_on, calls, effect_of, successors};
 ghost use Rattle.rules.specs.EffectLaws.{EffectsAreSound};
 
-use crate::lookup::{natural, owner, procedure_at};
+use crate::lookup::{natural, procedure_of};
 use sheet::instruction::Instruction;
 use sheet::kind::Kind;
 use sheet::mnemonic::Mnemonic;
@@ -30,10 +30,24 @@ pub enum Gives {
 // Where it goes on.
 #[derive(Clone, Copy, Drop)]
 pub enum Way {
-    Halt, // nowhere; whatever the stack is
+    Halt, // nowhere, with any stack
     Next,
     Jump(usize),
     Fork(usize), // the label, or the next instruction
+}
+
+impl Way {
+    // The instructions that it leads to from instruction n, the label first.
+    pub fn successors(self, n: usize) -> (Option<usize>, Option<usize>)
+        ensures { result ≡ successors self n }
+    {
+        match self {
+            Way::Halt => (None, None),
+            Way::Next => (n.checked_add(1), None),
+            Way::Jump(label) => (Some(label), None),
+            Way::Fork(label) => (Some(label), n.checked_add(1)),
+        }
+    }
 }
 
 #[derive(Clone, Copy, Drop)]
@@ -80,6 +94,7 @@ pub fn effect_of(table: Table<'_>, n: usize, x: Instruction) -> Effect
     ensures value { result ≡ effect_of (contents_of table.entry) n x }
     ensures law { EffectsAreSound }
 {
+    // A missing letter counts as a, so that every instruction has an effect; the rules of operands refuse it.
     let t = x.t.unwrap_or(Kind::Address);
     let t2 = x.t2.unwrap_or(Kind::Address);
     let p = natural(x.p);
@@ -124,11 +139,8 @@ pub fn effect_of(table: Table<'_>, n: usize, x: Instruction) -> Effect
         },
         Mnemonic::Conv => goes_on(one(t), Gives::One(t2)),
         Mnemonic::Mst => goes_on(NONE, Gives::Mark(p)),
-        Mnemonic::Cup => call(procedure_at(table, owner(table, q))),
-        Mnemonic::Ent => goes_on(
-            Takes::Parameters(procedure_at(table, owner(table, n))),
-            Gives::Nothing,
-        ),
+        Mnemonic::Cup => call(procedure_of(table, q)),
+        Mnemonic::Ent => goes_on(Takes::Parameters(procedure_of(table, n)), Gives::Nothing),
         Mnemonic::Retf | Mnemonic::Retp | Mnemonic::Hlt => Effect {
             takes: NONE,
             gives: Gives::Nothing,

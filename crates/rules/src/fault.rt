@@ -1,10 +1,13 @@
-ghost use Rattle.std.specs.Prelude.{◌≡◌};
-ghost use Rattle.rules.specs.Faults.{fault_number, fault_place};
+ghost use Rattle.std.specs.Prelude.{◌≡◌, Some};
+ghost use Rattle.rules.specs.Faults.{fault_number, fault_place, cause_of};
+
+use std::error::Error;
+use std::fmt;
 
 // Why a table is refused.
 #[derive(Clone, Copy, PartialEq, Eq, Debug, Drop)]
 pub enum TableFault {
-    IllFormed(usize), // 20: the lowest procedure that breaks a rule of tables; 0 for the counts
+    IllFormed(usize), // 20: the lowest procedure that breaks a rule of tables; 0 where a count does
     NotAllowed(usize), // 21: the lowest instruction with a letter, an operand or an ent that is not allowed
     WrongStack(usize), // 22: the stack does not end in what the instruction takes
     StackTooHigh(usize), // 23: the stack given exceeds the cells that ent allows
@@ -47,3 +50,26 @@ impl TableFault {
         }
     }
 }
+
+// The cause alone; number and place go before it.
+impl fmt::Display for TableFault {
+    ghost output = { λ fault. Some (cause_of fault) };
+
+    fn fmt<W: fmt::Write>(&self, f: &mut fmt::Formatter<W>) -> fmt::Result {
+        f.write_str(match self {
+            TableFault::IllFormed(_) => "a rule of tables is broken",
+            TableFault::NotAllowed(_) =>
+                "a letter or operand that is not allowed, or an ent, retf or retp out of place",
+            TableFault::WrongStack(_) => "the stack does not end in what the instruction takes",
+            TableFault::StackTooHigh(_) =>
+                "the stack given exceeds the cells that the procedure's ent allows",
+            TableFault::StacksDiffer(_) => "two stacks that meet differ",
+            TableFault::PastTheEnd(_) => "the next instruction lies past the procedure",
+            TableFault::TooFewPlaces => "fewer rows or places are lent than there are instructions",
+            TableFault::RowTooHigh(_) =>
+                "the row exceeds the cells that the procedure's ent allows",
+        })
+    }
+}
+
+impl Error for TableFault {}

@@ -15,9 +15,6 @@ use sheet::procedure::Procedure;
 use sheet::shape::{Rule, Shape};
 use sheet::table::Table;
 
-// The offset of the first data cell in a frame.
-const FIRST_CELL: usize = 5;
-
 // How many cells of stack an ent may allow.
 const MOST_ROOM: usize = 40;
 
@@ -30,7 +27,7 @@ fn unused_ok(shape: Shape, p: i32, q: i32) -> bool
 fn is_cell(procedure: Procedure, q: usize) -> bool
     ensures { result ≡ is_cell procedure q }
 {
-    (FIRST_CELL..FIRST_CELL + procedure.count as usize).contains(&q)
+    (Procedure::FIRST_CELL..Procedure::FIRST_CELL + procedure.count as usize).contains(&q)
 }
 
 fn kind_at(table: Table<'_>, procedure: Procedure, q: usize) -> Option<Kind>
@@ -39,7 +36,7 @@ fn kind_at(table: Table<'_>, procedure: Procedure, q: usize) -> Option<Kind>
     if !is_cell(procedure, q) {
         return None;
     }
-    let place = procedure.offset.checked_add(q - FIRST_CELL)?;
+    let place = procedure.offset.checked_add(q - Procedure::FIRST_CELL)?;
     table.cells.get(place).copied()
 }
 
@@ -69,7 +66,7 @@ fn variable_ok(table: Table<'_>, procedure: Procedure, t: Option<Kind>, q: usize
     (q == 0 && procedure.result == t) || cell_ok(table, procedure, t, q)
 }
 
-// By `matches!`, here and below: of `is_some_and` the check did not tie the closure to the rule.
+// By `matches!`, here and below: of `is_some_and` the check does not tie the closure to the rule.
 fn local_ok(table: Table<'_>, o: usize, t: Option<Kind>, p: usize, q: usize) -> bool
     ensures { result ≡ local_ok (contents_of table.entry) o t p q }
 {
@@ -102,10 +99,11 @@ fn call_ok(table: Table<'_>, p: usize, q: usize) -> bool
 fn enter_ok(procedure: Procedure, p: usize, q: usize) -> bool
     ensures { result ≡ enter_ok procedure p q }
 {
-    p <= MOST_ROOM && q == FIRST_CELL + procedure.count as usize
+    p <= MOST_ROOM && q == Procedure::FIRST_CELL + procedure.count as usize
 }
 
 // Whether p and q name what the rule asks, for an instruction of procedure o.
+// Letter and operands go one by one, here and above: each rule takes others of them, so that a struct would be taken apart at each call.
 fn rule_ok(
     table: Table<'_>,
     o: usize,
@@ -170,8 +168,5 @@ pub fn check_operands(table: Table<'_>) -> Result<(), TableFault>
     ensures law { OperandsAreChecked }
     ensures names { OperandsName }
 {
-    match lowest_not_allowed(table) {
-        Some(n) => Err(TableFault::NotAllowed(n)),
-        None => Ok(()),
-    }
+    lowest_not_allowed(table).map_or(Ok(()), |n| Err(TableFault::NotAllowed(n)))
 }

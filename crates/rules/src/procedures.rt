@@ -16,8 +16,6 @@ const MOST_CODE: usize = 4096;
 
 const MOST_PROCEDURES: usize = 64;
 
-const MOST_CELLS: u16 = 250;
-
 const MOST_PARAMETERS: u16 = 35;
 
 // How many parents may lead from a procedure to procedure 0.
@@ -52,7 +50,7 @@ fn sizes_ok(procedure: Procedure) -> bool
 {
     procedure.parameters <= MOST_PARAMETERS
         && procedure.parameters <= procedure.count
-        && procedure.count <= MOST_CELLS
+        && procedure.count <= Procedure::MOST_CELLS
 }
 
 // Wide, since the offset may be any number.
@@ -118,8 +116,5 @@ pub fn check_table(table: Table<'_>) -> Result<(), TableFault>
     if !counts_ok(table) {
         return Err(TableFault::IllFormed(0));
     }
-    match lowest_ill_formed(table) {
-        Some(n) => Err(TableFault::IllFormed(n)),
-        None => Ok(()),
-    }
+    lowest_ill_formed(table).map_or(Ok(()), |n| Err(TableFault::IllFormed(n)))
 }

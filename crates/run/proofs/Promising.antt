@@ -23,32 +23,28 @@ use Rattle.soundness.specs.Runs.{total, StaysTyped}
 use Rattle.soundness.proofs.Admits.{admitted_runs_stay_typed}
 use Rattle.soundness.proofs.Runs.{one_go}
 use Rattle.run.specs.declared.answer.Answer.{Answer}
+use Rattle.run.specs.declared.answer.Answer.TheVariants.{Looked}
 use Rattle.run.specs.declared.answer.Call.{Call}
 use Rattle.run.specs.declared.answer.Call.TheVariants as c
 use Rattle.run.specs.declared.answer.LookFault.{LookFault}
 use Rattle.run.specs.declared.answer.LookFault.TheVariants.{OtherStore, NotReached}
-use Rattle.run.specs.Answers.{finish_of, finish_number, number_of, count_of, tally}
+use Rattle.run.specs.Answers.{finish_of, finish_number, number_of, tally}
 use Rattle.run.specs.Calls.{look_at}
 use Rattle.run.specs.Promise.{Below, Kept, EqualCountsLeaveEqualStates}
-use Rattle.run.specs.Undergone.{found, meant, told, state_after}
-
-no_steps : (r : Result Cell LookFault) → count_of (found r) ≡ 0
-no_steps (Ok x) = refl
-no_steps (Err e) = refl
+use Rattle.run.specs.Undergone.{meant, told, state_after}
 
 tallied : (T : Contents) (cs : List Call) (s : State) → tally (told T cs s) ≡ total T (map meant cs) s
 unfolding told
 tallied T [] s = refl
 tallied T (c.Go n ∷ cs) s = ap (λ (k : ℕ). (go T n s).count + k) (tallied T cs (go T n s).state)
-tallied T (c.Look x ∷ cs) s =
-    ap (λ (k : ℕ). k + tally (told T cs s)) (no_steps (look_at x.0 s.regs.height s.cells)) ∙ ap (λ (k : ℕ). 0 + k) (tallied T cs s)
+tallied T (c.Look x ∷ cs) s = ap (λ (k : ℕ). 0 + k) (tallied T cs s)
 tallied T (c.Report ∷ cs) s = ap (λ (k : ℕ). 0 + k) (tallied T cs s)
 
 finish_is : (o : Option Ending) → ending_of o < 60 → finish_number (finish_of o) < 60
 finish_is None h = h
 finish_is (Some e) h = h
 
-found_low : (r : Result Cell LookFault) → number_of (found r) < 60
+found_low : (r : Result Cell LookFault) → number_of (Looked r) < 60
 found_low (Ok x) = omega arith
 found_low (Err OtherStore) = omega arith
 found_low (Err NotReached) = omega arith

@@ -4,7 +4,7 @@
 --   number_of: the number of an answer, 0 where a cell or the registers are answered
 --   count_of: the steps that a call made, by its answer
 --   tally: the total of the counts answered
-use Rattle.std.specs.Prelude.{ℕ, ◌+◌, List, [], ◌∷◌, Some, None, Option}
+use Rattle.std.specs.Prelude.{ℕ, ◌+◌, List, [], ◌∷◌, Some, None, Ok, Err, Option}
 use Rattle.machine.specs.declared.ending.Ending.{Ending}
 use Rattle.machine.specs.Endings.{ending_number}
 use Rattle.run.specs.declared.answer.Answer.{Answer}
@@ -29,14 +29,13 @@ fault_number l.NotReached = 35
 
 abbrev pub number_of : Answer → ℕ
 number_of (a.Went w) = finish_number w.finish
-number_of (a.Found c) = 0
-number_of (a.Refused e) = fault_number e
+number_of (a.Looked (Ok c)) = 0
+number_of (a.Looked (Err e)) = fault_number e
 number_of (a.Registers r) = 0
 
 abbrev pub count_of : Answer → ℕ
 count_of (a.Went w) = w.count
-count_of (a.Found c) = 0
-count_of (a.Refused e) = 0
+count_of (a.Looked r) = 0
 count_of (a.Registers r) = 0
 
 abbrev pub tally : List Answer → ℕ

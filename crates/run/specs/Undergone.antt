@@ -1,5 +1,4 @@
 -- What a list of calls answers and leaves. Cited by the call that undergoes one. Assumes nothing.
---   found: what a look answers, as an answer among others
 --   meant: a call as the promises on runs speak of it
 --   answered: what a call answers over the store that the run began over
 --   One, one: that, with the state that the call leaves
@@ -26,15 +25,10 @@ use Rattle.run.specs.declared.answer.Answer.{Answer}
 use Rattle.run.specs.declared.answer.Answer.TheVariants as a
 use Rattle.run.specs.declared.answer.Call.{Call}
 use Rattle.run.specs.declared.answer.Call.TheVariants as c
-use Rattle.run.specs.declared.answer.LookFault.{LookFault}
 use Rattle.run.specs.declared.fault.UndergoFault.{UndergoFault}
 use Rattle.run.specs.declared.fault.UndergoFault.TheVariants as fault
 use Rattle.run.specs.declared.run.Run.{Run}
 use Rattle.run.specs.Calls.{sized, as_answer, look_at, reported}
-
-abbrev pub found : Result Cell LookFault → Answer
-found (Ok x) = a.Found x
-found (Err e) = a.Refused e
 
 abbrev pub meant : Call → runs.Call
 meant (c.Go n) = runs.goes n
@@ -43,7 +37,7 @@ meant c.Report = runs.reports
 
 abbrev pub answered : Contents → Call → State → Answer
 answered T (c.Go n) s = a.Went (as_answer (go T n s))
-answered T (c.Look x) s = found (look_at x.0 s.regs.height s.cells)
+answered T (c.Look x) s = a.Looked (look_at x.0 s.regs.height s.cells)
 answered T c.Report s = a.Registers (reported s.regs)
 
 abbrev pub after : Contents → Call → State → State

@@ -1,13 +1,12 @@
 // The calls on a run, and what they answer.
 ghost use Rattle.std.specs.Prelude.{◌≡◌};
 ghost use Rattle.run.specs.Answers.{finish_of, finish_number, fault_number};
-ghost use Rattle.run.specs.Undergone.{found};
 
 use machine::ending::Ending;
 use sheet::place::{CodePlace, StorePlace};
 use store::cell::Cell;
 
-// How a go came to its end; no Result, since over another store a go still answers, with a count of 0.
+// How a go came to its end; no Result, since a go always answers, over another store with a count of 0.
 #[derive(Clone, Copy, Drop)]
 pub enum Finish {
     Spent, // 0: all steps are done
@@ -16,7 +15,7 @@ pub enum Finish {
 }
 
 impl Finish {
-    // A method, since `u8::from` would not say that it is the number of a refusal.
+    // A method, since `u8::from` would not say that it is the number of an ending.
     pub fn number(self) -> u8
         ensures { result ≡ finish_number self }
     {
@@ -82,22 +81,9 @@ pub enum Call {
     Report,
 }
 
-// Found and Refused are cases of their own, so that an answer is taken apart by one match.
 #[derive(Clone, Copy, Drop)]
 pub enum Answer {
     Went(Went),
-    Found(Cell),
-    Refused(LookFault),
+    Looked(Result<Cell, LookFault>),
     Registers(Report),
-}
-
-impl From<Result<Cell, LookFault>> for Answer {
-    ghost from_gives = { λ x y. y ≡ found x };
-
-    fn from(value: Result<Cell, LookFault>) -> Answer {
-        match value {
-            Ok(cell) => Answer::Found(cell),
-            Err(fault) => Answer::Refused(fault),
-        }
-    }
 }

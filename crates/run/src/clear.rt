@@ -3,8 +3,8 @@ ghost use Rattle.std.specs.Prelude.{◌≡◌, ◌≤◌, ◌++◌, length, drop
 ghost use Rattle.store.specs.Cells.{clean};
 ghost use Rattle.machine.specs.Runs.{begun_cells};
 
+use reads::cells::put_at;
 use store::cell::Cell;
-use store::slot::Slot;
 use store::store::Store;
 
 // The first n cells become this one.
@@ -13,7 +13,7 @@ fn fill<S: Store>(store: &mut S, n: u32, cell: Cell)
     ensures { S.cells store.new ≡ replicate n (clean cell) ++ drop n (S.cells store.old) }
 {
     for i in 0..n {
-        let _ = store.write(Slot(i), cell);
+        put_at(store, i, cell);
     }
 }
 

@@ -47,7 +47,7 @@ impl From<TableFault> for UndergoFault {
 impl From<Refused<'_>> for UndergoFault {
     ghost from_gives = { λ _ y. y ≡ StoreLength };
 
-    fn from(_refused: Refused<'_>) -> Self {
-        Self::StoreLength
+    fn from(_refused: Refused<'_>) -> UndergoFault {
+        UndergoFault::StoreLength
     }
 }

@@ -7,6 +7,7 @@ use admit::Passed;
 use host::host::Host;
 use machine::machine::Machine;
 use machine::registers::Registers;
+use reads::cells::reached;
 use sheet::place::{CodePlace, StorePlace};
 use steps::go::go_on;
 use store::cell::Cell;
@@ -44,6 +45,7 @@ pub fn begin<'a, S: Store>(passed: Passed<'a>, store: &mut S) -> Result<Run<'a>,
     if !(5..=65536).contains(&n) {
         return Err(Refused { passed });
     }
+    // The test above bounds both casts, and names the numbers of the rule, which a chain of `try_from` would not.
     clear(store, n as u32);
     let regs = Registers {
         pc: CodePlace(0),
@@ -55,13 +57,12 @@ pub fn begin<'a, S: Store>(passed: Passed<'a>, store: &mut S) -> Result<Run<'a>,
     Ok(Run { passed, regs })
 }
 
-// As `reached` of the instructions, whose refusal is another.
+// The cell at a place from 0 to SP.
 fn cell_at<S: Store>(store: &S, height: u32, place: StorePlace) -> Result<Cell, LookFault>
     ensures { result ≡ look_at place.0 height (S.cells store.now) }
 {
-    u32::try_from(place.0)
+    reached(place, height)
         .ok()
-        .filter(|x| *x < height)
         .and_then(|x| store.read(Slot(x)).ok())
         .ok_or(LookFault::NotReached)
 }
@@ -69,6 +70,7 @@ fn cell_at<S: Store>(store: &S, height: u32, place: StorePlace) -> Result<Cell, 
 fn stack_place(height: u32) -> StorePlace
     ensures { result ≡ stack_place height }
 {
+    // A cast, bounded by the min: `try_from` would bring a refusal that cannot come.
     StorePlace(height.min(65536) as i32 - 1)
 }
 
@@ -80,7 +82,7 @@ impl<'a> Run<'a> {
         store.len() == usize::from(self.regs.last) + 1
     }
 
-    // Steps until n are done, or until something ends the run sooner.
+    // Steps until n are done, or until something ends the run sooner; length and last place are said apart, as at `step`.
     pub fn go<S: Store, H: Host>(&mut self, store: &mut S, host: &mut H, n: u32) -> Went
         ensures value { ◌≡◌ {A = Gone} (record { answer = result; run = self.new; cells = S.cells store.new; host = H.means host.new }) (gone n self.old (S.cells store.old) (H.means host.old)) }
         ensures kept { (length (S.cells store.new) ≡ length (S.cells store.old)) × (self.new.regs.last ≡ self.old.regs.last) }
@@ -128,7 +130,6 @@ impl<'a> Run<'a> {
     pub fn close(self) -> Passed<'a>
         ensures { result ≡ self.entry.passed }
     {
-        let Run { passed, regs: _ } = self;
-        passed
+        self.passed
     }
 }

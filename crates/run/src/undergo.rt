@@ -25,7 +25,7 @@ fn make<S: Store, H: Host>(run: &mut Run<'_>, store: &mut S, host: &mut H, call:
 {
     match call {
         Call::Go(n) => Answer::Went(run.go(store, host, n)),
-        Call::Look(place) => Answer::from(run.look(store, place)),
+        Call::Look(place) => Answer::Looked(run.look(store, place)),
         Call::Report => Answer::Registers(run.report()),
     }
 }

@@ -14,7 +14,7 @@ pub enum Kind {
 }
 
 impl Kind {
-    // The letter that stands for it in text: `u8::from(kind)` would not say that it is a letter.
+    // The letter that stands for it in text: `u8::from(kind)` would not say that it is a letter, and a discriminant would read `b'a' as isize`.
     pub fn letter(self) -> u8
         ensures { result ≡ letter_of self }
     {

@@ -17,6 +17,12 @@ pub struct Procedure {
 }
 
 impl Procedure {
+    // The offset of the first data cell in a frame.
+    pub const FIRST_CELL: usize = 5;
+
+    // How many data cells there may be.
+    pub const MOST_CELLS: u16 = 250;
+
     // What stands where there is no procedure.
     pub const NONE: Procedure = Procedure {
         parent: 0,

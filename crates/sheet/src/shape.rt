@@ -1,6 +1,7 @@
 // The operand shape of each mnemonic: which letters it takes, whether it uses p and q, and what they must name.
-ghost use Rattle.std.specs.Prelude.{◌≡◌, bytes_eq, map};
+ghost use Rattle.std.specs.Prelude.{◌≡◌, bytes_eq};
 ghost use Rattle.std.specs.List.{find};
+ghost use Rattle.std.specs.Option.{option_map};
 ghost use Rattle.sheet.specs.Shapes.{shape_of, name_of, named, NamesAreApart};
 
 use crate::mnemonic::Mnemonic;
@@ -49,30 +50,26 @@ const BARE: Shape = Shape {
 
 const NUMERIC: Shape = Shape {
     letters: Letters::Number,
-    p: false,
-    q: false,
-    rule: Rule::Free,
+    ..BARE
 };
 
 const TYPED: Shape = Shape {
     letters: Letters::Every,
-    p: false,
-    q: false,
-    rule: Rule::Free,
+    ..BARE
 };
 
 const CONSTANT: Shape = Shape {
     letters: Letters::Every,
-    p: false,
     q: true,
     rule: Rule::Constant,
+    ..BARE
 };
 
 const GLOBAL: Shape = Shape {
     letters: Letters::Every,
-    p: false,
     q: true,
     rule: Rule::Global,
+    ..BARE
 };
 
 const LOCAL: Shape = Shape {
@@ -83,90 +80,73 @@ const LOCAL: Shape = Shape {
 };
 
 const ADDRESS: Shape = Shape {
-    letters: Letters::Nothing,
     p: true,
     q: true,
     rule: Rule::Address,
+    ..BARE
 };
 
-const SCALE: Shape = Shape {
-    letters: Letters::Nothing,
-    p: false,
-    q: true,
-    rule: Rule::Free,
-};
+const SCALE: Shape = Shape { q: true, ..BARE };
 
 const STEP: Shape = Shape {
     letters: Letters::Ordinal,
-    p: false,
     q: true,
-    rule: Rule::Free,
+    ..BARE
 };
 
 const BOUNDS: Shape = Shape {
-    letters: Letters::Nothing,
     p: true,
     q: true,
-    rule: Rule::Free,
+    ..BARE
 };
 
 const LABEL: Shape = Shape {
-    letters: Letters::Nothing,
-    p: false,
     q: true,
     rule: Rule::Label,
+    ..BARE
 };
 
 const READ: Shape = Shape {
     letters: Letters::Reads,
-    p: false,
-    q: false,
-    rule: Rule::Free,
+    ..BARE
 };
 
 const PAIR: Shape = Shape {
     letters: Letters::Pair,
-    p: false,
-    q: false,
-    rule: Rule::Free,
+    ..BARE
 };
 
 const LINK: Shape = Shape {
-    letters: Letters::Nothing,
     p: true,
-    q: false,
     rule: Rule::Link,
+    ..BARE
 };
 
 const CALL: Shape = Shape {
-    letters: Letters::Nothing,
     p: true,
     q: true,
     rule: Rule::Call,
+    ..BARE
 };
 
 const ENTER: Shape = Shape {
-    letters: Letters::Nothing,
     p: true,
     q: true,
     rule: Rule::Enter,
+    ..BARE
 };
 
 const FUNCTION: Shape = Shape {
-    letters: Letters::Nothing,
-    p: false,
-    q: false,
     rule: Rule::Function,
+    ..BARE
 };
 
 const PROCEDURE: Shape = Shape {
-    letters: Letters::Nothing,
-    p: false,
-    q: false,
     rule: Rule::Procedure,
+    ..BARE
 };
 
-// A mnemonic, its name padded with blanks at the right, and its operand shape.
+// A mnemonic, its name padded with blanks at the right, and its operand shape. Named fields would take five lines for each row of the table.
 #[derive(Clone, Copy, Drop)]
 struct Entry(Mnemonic, [u8; 4], Shape);
 
@@ -219,14 +199,14 @@ impl Mnemonic {
         TABLE[self as usize].2
     }
 
-    // Its name, padded with blanks at the right.
+    // Its name, padded with blanks at the right. No From: the name says which bytes.
     pub fn name(self) -> [u8; 4]
         ensures { result ≡ name_of self }
     {
         TABLE[self as usize].1
     }
 
-    // The mnemonic with this name.
+    // The mnemonic with this name. No TryFrom: the name says which bytes.
     pub fn by_name(name: [u8; 4]) -> Option<Mnemonic>
         ensures found { result ≡ named name }
         ensures apart { NamesAreApart }
@@ -236,10 +216,10 @@ impl Mnemonic {
 }
 
 fn find_in(table: &[Entry], name: [u8; 4]) -> Option<Mnemonic>
-    ensures { result ≡ find (λ m. bytes_eq (name_of m) name) (map (λ e. e.0) table.now) }
+    ensures { result ≡ option_map (λ e. e.0) (find (λ e. bytes_eq e.1 name) table.now) }
 {
     table
         .iter()
+        .find(|entry| entry.1 == name)
         .map(|entry| entry.0)
-        .find(|mnemonic| mnemonic.name() == name)
 }

@@ -40,7 +40,7 @@ impl Value {
     }
 }
 
-// What a value holds; one of another kind is a wrong cell.
+// What a value holds; one of another kind is a wrong cell. Five alike: the gate refuses an impl that a macro of the repository writes.
 impl TryFrom<Value> for StorePlace {
     type Error = Stop;
 

@@ -1,10 +1,11 @@
 -- An admitted table keeps the rule of frames at each instruction with a row, and so its runs stay typed.
-use Rattle.std.proofs.Common.{◌≡◌, ℕ, ◌<◌, ◌≤◌, Bool, true, false, cond, eqb, leb, ◌⊎◌, [], length, take, drop, Some, None, Option, sym, refl, ap, ◌∙◌, subst, inl, inr, arith}
+use Rattle.std.proofs.Common.{◌≡◌, ℕ, ◌<◌, ◌≤◌, Bool, true, false, cond, eqb, leb, ◌⊎◌, [], length, get_or, take, drop, pos, Some, None, Option, sym, refl, ap, ◌∙◌, subst, inl, inr, arith}
 use Rattle.std.specs.List.{slice_get}
 use Rattle.std.proofs.lemmas.List.{get_or_past}
 use Rattle.std.proofs.lemmas.Option.{slice_get-get_or}
 use Rattle.std.proofs.lemmas.Bool.{leb-true, eq-eqb, ne_eqb, cases_lt}
 use Rattle.sheet.specs.declared.instruction.Instruction.{Instruction}
+use Rattle.sheet.specs.declared.mnemonic.Mnemonic.TheVariants.{Hlt}
 use Rattle.sheet.specs.Shapes.{shape_of}
 use Rattle.sheet.specs.Tables.{Contents}
 use Rattle.rules.specs.declared.fault.TableFault.TheVariants.{TooFewPlaces}
@@ -23,10 +24,14 @@ use Rattle.judge.proofs.Admission.{admit_accepts_exactly_local_rows}
 use Rattle.machine.specs.Steps.{decoded}
 use Rattle.soundness.specs.Runs.{AdmittedRunsStayTyped}
 use Rattle.soundness.proofs.Rules.{declaration, laid, room, Rule, Ruled}
-use Rattle.soundness.proofs.Takes.{element, parameters_begin}
+use Rattle.soundness.proofs.Takes.{parameters_begin}
 use Rattle.soundness.proofs.Flows.{by_mnemonic}
 use Rattle.soundness.proofs.Steps.{starts}
 use Rattle.soundness.proofs.Runs.{stays}
+
+-- stands where there is no instruction
+no_instruction : Instruction
+no_instruction = record { mnemonic = Hlt; t = None; t2 = None; p = pos 0; q = pos 0 }
 
 module _ (T : Contents) (rows : RowList Stack) (wide : length rows ≡ length T.code) (L : LocallyRight T rows) where
   with_row : (n : ℕ) (ρ : Stack) → row_at rows n ≡ Some ρ → n < length T.code
@@ -44,17 +49,17 @@ module _ (T : Contents) (rows : RowList Stack) (wide : length rows ≡ length T.
   rule n ρ e =
       let l = with_row n ρ e in
       let c = L.table.counts.code_fits in
-      let x = element T.code n l in
-      let here = x.1 in
-      let R = L.operands n x.0 here in
+      let x = get_or T.code n no_instruction in
+      let here = slice_get-get_or T.code n no_instruction l in
+      let R = L.operands n x here in
       let f = L.follows n ρ e in
       let g = ap (λ (i : Option Instruction). goes_from T n i ρ) (sym here) ∙ f.1 in
-      let w = by_mnemonic T (row_at rows) n ρ L.table f.0 f.2 begin x.0.mnemonic x.0.t x.0.t2 x.0.p x.0.q R.letters R.operands (entered x.0 here R) g in
+      let w = by_mnemonic T (row_at rows) n ρ L.table f.0 f.2 begin x.mnemonic x.t x.t2 x.p x.q R.letters R.operands (entered x here R) g in
       record {
         operation = w.0;
         inside = omega arith;
         there = ap decoded here ∙ w.1;
-        starts = w.2 ∙ first x.0 R (enters (shape_of x.0.mnemonic).rule) refl;
+        starts = w.2 ∙ first x R (enters (shape_of x.mnemonic).rule) refl;
         flow = w.3;
       }
     where

@@ -15,20 +15,18 @@ use Rattle.machine.specs.Frames.{settle, clear, result_cell, enter, marked, call
 use Rattle.machine.specs.Leaves.{mark_in, place_in, held}
 use Rattle.machine.specs.States.{State, code_at, regs_at}
 use Rattle.machine.specs.Steps.{cup}
-use Rattle.std.proofs.lemmas.Bool.{leb-true}
+use Rattle.std.proofs.lemmas.Bool.{leb-true, le-leb, lt-ltb, eq-eqb, and_from}
+use Rattle.machine.proofs.Lengths.{length_put, length_settle, length_clear, length_result}
 use Rattle.soundness.specs.Frames.{Rows, operation_at}
 use Rattle.soundness.proofs.Rules.{Declaration, declaration, laid, gave, room, Handed, Calls}
 use Rattle.soundness.proofs.Invariant.{Sort, is_at, is_work, is_data, sort, Stands, Frame, Frames, ground, over, place_of, ep_of, procedure_of, up, Under, row_sorts, result_sort, data_sorts, foot, links, deck, shape, Fitted, Called, Good, Sound, Safe}
-use Rattle.soundness.proofs.Cells.{length_put, Valid, sort_work, leb_yes, ltb_yes, eqb_yes, safe_bind, bind_ok, demand_ok, demand_may, stands_push, stands_at, At, number_is, placed_is, held_is}
+use Rattle.soundness.proofs.Cells.{Valid, sort_work, safe_bind, bind_ok, demand_ok, demand_may, stands_push, stands_at, At, number_is, placed_is, held_is}
 use Rattle.soundness.proofs.Stacks.{length_row, length_laid, good_place, up_is, at_foot, shape_more, under_place}
-use Rattle.soundness.proofs.Laying.{laid_append, row_laid, laid_out, passed_is, length_settle, length_clear, settle_stands, clear_stands, laid_put}
+use Rattle.soundness.proofs.Laying.{laid_append, row_laid, laid_out, passed_is, settle_stands, clear_stands, laid_put}
 use Rattle.soundness.proofs.Inside.{with_row, good_row, length_deck, links_is}
 
 four : {a b c d : Bool} → a ≡ true → b ≡ true → c ≡ true → d ≡ true → (a && (b && (c && d))) ≡ true
 four p q r t = rw (p, q, r, t)
-
-both_yes : {a b : Bool} → a ≡ true → b ≡ true → (a && b) ≡ true
-both_yes p q = rw (p, q)
 
 pub number_at : (cs : List Cell) (x y n : ℕ) → x ≡ y → sort (peek cs y) ≡ is_at n → mark_in (peek cs x) ≡ Ok (pos n)
 number_at cs x y n e h = number_is (pos n) (peek cs x) (rw e h)
@@ -109,7 +107,7 @@ module _ (T : Contents) (rows : Rows) (s : State) (S : Sound T rows s) where
           row_is = c.starts;
           own = refl;
           last_is = S.last_is ∙ sym len;
-          entered = sym (ap not (eqb_yes q (declaration T (owner T q)).first (sym c.first)));
+          entered = sym (ap not (eq-eqb q (declaration T (owner T q)).first (sym c.first)));
           fitted = λ (z : false ≡ true). absurd (let w : ◌≡◌ {A = ℕ} 0 1 = cc in omega arith);
         }
 
@@ -136,7 +134,7 @@ module _ (T : Contents) (rows : Rows) (s : State) (S : Sound T rows s) where
         let z₂ = placed_at cs (m + 2) (suc (suc (length (shape T caller)))) _ (omega arith) st.1.1.0 in
         let z₃ = placed_at cs (m + 3) (suc (suc (suc (length (shape T caller))))) _ (omega arith) st.1.0 in
         let z₄ = number_at cs (m + 4) (suc (suc (suc (suc (length (shape T caller)))))) _ (omega arith) st.0 in
-        let ok = four (ltb_yes (place_of (up c.j caller)) m (omega arith)) (ltb_yes S.top.place m (omega arith)) (leb_yes s.regs.height (S.top.ep + 1) (omega arith)) (leb_yes S.top.ep s.regs.last (omega arith)) in
+        let ok = four (lt-ltb (place_of (up c.j caller)) m (omega arith)) (lt-ltb S.top.place m (omega arith)) (le-leb s.regs.height (S.top.ep + 1) (omega arith)) (le-leb S.top.ep s.regs.last (omega arith)) in
         after_marks (Sound T rows) m s (pos 0) (pos 0) (place_of (up c.j caller)) S.top.place S.top.ep _ z₀ z₁ z₂ z₃ z₄ ok
         (rw (passed_is ps (m + 5) cs r.1) (opened m e))
 
@@ -153,7 +151,7 @@ module _ (T : Contents) (rows : Rows) (s : State) (S : Sound T rows s) where
         let x₁ = length_row S.top.ep S.top.place (links S.top.place S.parent) S.top.row (deck T S.below S.parent S.top (shape T S.below)) in
         let x₂ = length_deck T S.below S.parent S.top (shape T S.below) en in
         let x₃ = S.sp_is in
-        demand_ok (Sound T rows) _ WrongMark _ (both_yes (leb_yes (k + 5) s.regs.height (omega arith)) (leb_yes (s.regs.height - (k + 5)) s.regs.last (omega arith)))
+        demand_ok (Sound T rows) _ WrongMark _ (and_from _ _ (le-leb (k + 5) s.regs.height (omega arith)) (le-leb (s.regs.height - (k + 5)) s.regs.last (omega arith)))
         (call_safe (s.regs.height - (k + 5)) (omega arith))
 
 -- the result cell of a frame becomes a data cell
@@ -162,10 +160,6 @@ result_stands : (r : Option Kind) (ds : List Kind) (cs : List Cell) (x l m e t :
 result_stands None ds cs x l m e t K q b h = h
 result_stands (Some u) ds cs x l m e t K q b h =
     laid_put is_data ds cs (is_at t ∷ (is_at e ∷ (is_at m ∷ (is_at l ∷ [])))) K x (Blank u) (is_at 0) (is_data u) q b refl h
-
-pub length_result : (r : Option Kind) (x : ℕ) (cs : List Cell) → length (result_cell r x cs) ≡ length cs
-length_result None x cs = refl
-length_result (Some t) x cs = length_put cs x (Blank t)
 
 good_entered : (T : Contents) (rows : Rows) (len : ℕ) (b p : Frames) (f g : Frame) → f.place ≡ g.place → f.of ≡ g.of → f.ret ≡ g.ret → Good T rows len (over b p f) → Good T rows len (over b p g)
 good_entered T rows len ground p f g e₁ e₂ e₃ h = (h.0, sym e₂ ∙ h.1, sym e₁ ∙ h.2)
@@ -253,7 +247,7 @@ module _ (T : Contents) (rows : Rows) (s : State) where
         let pc = number_is (pos f.ret) (peek s.cells (s.regs.mp + 4)) (at_mark (s.regs.mp + 4) (is_at f.ret) (inl (omega arith, refl))) in
         let ep = placed_is k.ep (peek s.cells (s.regs.mp + 3)) (at_mark (s.regs.mp + 3) (is_at k.ep) (inr (inl (omega arith, refl)))) in
         let om = placed_is k.place (peek s.cells (s.regs.mp + 2)) (at_mark (s.regs.mp + 2) (is_at k.place) (inr (inr (inl (omega arith, refl))))) in
-        rw (pc, ep, om, ltb_yes k.place s.regs.mp (omega arith), leb_yes x (k.ep + 1) l, leb_yes k.ep s.regs.last (let fi₀ = g.1.fitted.ep_in in omega (arith, la)))
+        rw (pc, ep, om, lt-ltb k.place s.regs.mp (omega arith), le-leb x (k.ep + 1) l, le-leb k.ep s.regs.last (let fi₀ = g.1.fitted.ep_in in omega (arith, la)))
 
     fits : (σ : Stack) → gave (declaration T f.of).result k.row ≡ σ → cells_on σ ≤ room T k.of
     fits σ e = rw (e, g.1.waits.own) at g.1.waits.next.fits

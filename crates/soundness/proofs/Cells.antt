@@ -1,11 +1,11 @@
 -- Laws of `Stands`, of `Safe`, and of the reads that a step makes.
-use Rattle.std.proofs.Common.{◌≡◌, ℕ, zero, suc, ◌+◌, ◌-◌, ◌<◌, ◌≤◌, Bool, true, false, cond, ◌&&◌, eqb, ltb, leb, ◌⊎◌, List, [], ◌∷◌, length, ℤ, pos, Ok, Err, sym, refl, ap, ◌∙◌, inl, inr, arith, length-set}
+use Rattle.std.proofs.Common.{◌≡◌, ℕ, zero, suc, ◌+◌, ◌-◌, ◌<◌, ◌≤◌, Bool, true, false, cond, ◌&&◌, eqb, ◌⊎◌, List, [], ◌∷◌, length, ℤ, pos, Ok, Err, refl, ap, ◌∙◌, inl, inr, arith}
+use Rattle.std.proofs.lemmas.Bool.{lt-ltb}
 use Rattle.sheet.specs.declared.kind.Kind.{Kind}
-use Rattle.sheet.specs.declared.kind.Kind.TheVariants as k
 use Rattle.sheet.specs.declared.stop.Stop.{Stop}
 use Rattle.sheet.specs.declared.stop.Stop.TheVariants.{WrongInput, NoRoom, NoValueYet}
 use Rattle.sheet.specs.declared.value.Value.{Value}
-use Rattle.sheet.specs.Kinds.{letter_of, kind_of, is_value, same}
+use Rattle.sheet.specs.Kinds.{kind_of, is_value, same}
 use Rattle.sheet.specs.Stops.{stop_number}
 use Rattle.arith.specs.Answers.{Answer, demand, ◌>>=◌, ◌>>◌}
 use Rattle.store.specs.declared.cell.Cell.{Cell}
@@ -14,20 +14,9 @@ use Rattle.store.specs.Cells.{clean, put, peek}
 use Rattle.host.specs.Hosts.{next_value, put_answer}
 use Rattle.machine.specs.Frames.{marks}
 use Rattle.machine.specs.Leaves.{working_in, mark_in, place_in, of_kind, held, writable, stacked, link}
+use Rattle.judge.proofs.Inside.{same_kind, kind_same}
+use Rattle.machine.proofs.Lengths.{length_put}
 use Rattle.soundness.proofs.Invariant.{Sort, is_free, is_mark, is_at, is_work, is_data, sort, Stands, Safe}
-
--- tests
-pub leb_yes : (a b : ℕ) → a ≤ b → leb a b ≡ true
-leb_yes a b h = grind arith
-
-pub ltb_yes : (a b : ℕ) → a < b → ltb a b ≡ true
-ltb_yes a b h = grind arith
-
-pub eqb_no : (a b : ℕ) → (a ≡ b → ⊥) → eqb a b ≡ false
-eqb_no a b h = grind arith
-
-pub eqb_yes : (a b : ℕ) → a ≡ b → eqb a b ≡ true
-eqb_yes a b h = grind arith
 
 -- Safe
 pub safe_bind : {A B : Type 0} (P : A → Type 0) (Q : B → Type 0) (m : Answer A) (f : A → Answer B) → Safe P m → ((x : A) → P x → Safe Q (f x)) → Safe Q (m >>= f)
@@ -46,9 +35,6 @@ demand_may Q true n r l h = h refl
 demand_may Q false n r l h = l
 
 -- cells
-pub length_put : (cs : List Cell) (x : ℕ) (c : Cell) → length (put cs x c) ≡ length cs
-length_put cs x c = length-set cs x (clean c)
-
 pub peek_put_same : (cs : List Cell) (x : ℕ) (c : Cell) → x < length cs → peek (put cs x c) x ≡ clean c
 peek_put_same [] x c l = absurd (omega arith)
 peek_put_same (d ∷ cs) zero c l = refl
@@ -131,22 +117,6 @@ pub record Valid (t : Kind) (x : Value) : Type 0 where
   pub value : is_value x ≡ true
   pub kind : kind_of x ≡ t
 
-abbrev kind_by : ℕ → Kind
-kind_by n = cond (eqb n 97) k.Address (cond (eqb n 98) k.Boolean (cond (eqb n 99) k.Character (cond (eqb n 105) k.Integer k.Real)))
-
-kind_by_letter : (t : Kind) → kind_by (letter_of t) ≡ t
-kind_by_letter k.Address = refl
-kind_by_letter k.Boolean = refl
-kind_by_letter k.Character = refl
-kind_by_letter k.Integer = refl
-kind_by_letter k.Real = refl
-
-pub same_is : (u t : Kind) → same u t ≡ true → u ≡ t
-same_is u t e = let q : letter_of u ≡ letter_of t = grind arith in sym (kind_by_letter u) ∙ (ap kind_by q ∙ kind_by_letter t)
-
-pub same_same : (t : Kind) → same t t ≡ true
-same_same t = eqb_yes (letter_of t) (letter_of t) refl
-
 work_sort : (t : Kind) (x : Value) (b : Bool) → is_value x ≡ b → cond b (is_work (kind_of x)) is_free ≡ is_work t → Valid t x
 work_sort t x true q e = record { value = q; kind = cc }
 work_sort t x false q e = absurd (let z : ◌≡◌ {A = ℕ} 0 1 = cc in omega arith)
@@ -177,7 +147,7 @@ pub working_is : (t : Kind) (c : Cell) → sort c ≡ is_work t → (x : Value) 
 working_is t c e = let w = work_is t c e in (w.0, ap working_in w.1, w.2)
 
 pub of_kind_is : (n : Stop) (t : Kind) (x : Value) → Valid t x → of_kind n t x ≡ Ok x
-of_kind_is n t x w = rw (w.kind, same_same t)
+of_kind_is n t x w = rw (w.kind, kind_same t)
 
 pub mark_is : (c : Cell) (z : ℤ) → sort c ≡ is_mark z → c ≡ Mark z
 mark_is Free z e = absurd (let w : ◌≡◌ {A = ℕ} 0 1 = cc in omega arith)
@@ -205,7 +175,7 @@ pub held_may : (n m : Stop) (t : Kind) (c : Cell) → Real (sort c) → stop_num
 held_may n m t Free r l k = l
 held_may n m t (Mark i) r l k = l
 held_may n m t (Working x) r l k = l
-held_may n m t (Data x) r l k = demand_may (Valid t) (same (kind_of x) t) m (Ok x) k (λ e. record { value = real (is_value x) refl r; kind = same_is (kind_of x) t e })
+held_may n m t (Data x) r l k = demand_may (Valid t) (same (kind_of x) t) m (Ok x) k (λ e. record { value = real (is_value x) refl r; kind = same_kind (kind_of x) t e })
   where
     real : (b : Bool) → is_value x ≡ b → Real (cond b (is_data (kind_of x)) is_free) → is_value x ≡ true
     real true q r = q
@@ -216,12 +186,12 @@ pub data_cases : {A : Type 0} (P : A → Type 0) (n m : Stop) (t : Kind) (c : Ce
 data_cases P n m t Free r w l k h = l
 data_cases P n m t (Mark i) r w l k h = l
 data_cases P n m t (Working x) r w l k h = l
-data_cases P n m t (Data x) r w l k h = demand_may P (same (kind_of x) t) m r k (λ e. h (real (is_value x) w ∙ ap is_data (same_is (kind_of x) t e)))
+data_cases P n m t (Data x) r w l k h = demand_may P (same (kind_of x) t) m r k (λ e. h (real (is_value x) w ∙ ap is_data (same_kind (kind_of x) t e)))
   where
     real : (b : Bool) → Real (cond b (is_data (kind_of x)) is_free) → cond b (is_data (kind_of x)) is_free ≡ is_data (kind_of x)
     real true r = refl
     real false r = absurd r
-data_cases P n m t (Blank u) r w l k h = demand_may P (same u t) m r k (λ e. h (ap is_data (same_is u t e)))
+data_cases P n m t (Blank u) r w l k h = demand_may P (same u t) m r k (λ e. h (ap is_data (same_kind u t e)))
 
 pub held_is : (n m : Stop) (t : Kind) (c : Cell) → sort c ≡ is_data t → Safe (Valid t) (held n m t c)
 held_is n m t Free e = absurd (let z : ◌≡◌ {A = ℕ} 0 1 = cc in omega arith)
@@ -232,7 +202,7 @@ held_is n m t (Working x) e = absurd (other (is_value x) e)
     other true e = let z : ◌≡◌ {A = ℕ} 0 1 = cc in omega arith
     other false e = let z : ◌≡◌ {A = ℕ} 0 1 = cc in omega arith
 held_is n m t (Data x) e = let w = data_sort t x (is_value x) refl e in rw (of_kind_is m t x w) w
-held_is n m t (Blank u) e = let q : u ≡ t = cc in rw (q, same_same t) (omega arith)
+held_is n m t (Blank u) e = let q : u ≡ t = cc in rw (q, kind_same t) (omega arith)
 
 pub data_is : (n m : Stop) (t : Kind) (c : Cell) → sort c ≡ is_data t → writable n m t c ≡ Ok tt
 data_is n m t Free e = absurd (let z : ◌≡◌ {A = ℕ} 0 1 = cc in omega arith)
@@ -242,15 +212,12 @@ data_is n m t (Working x) e = absurd (other (is_value x) e)
     other : (b : Bool) → cond b (is_work (kind_of x)) is_free ≡ is_data t → ⊥
     other true e = let z : ◌≡◌ {A = ℕ} 0 1 = cc in omega arith
     other false e = let z : ◌≡◌ {A = ℕ} 0 1 = cc in omega arith
-data_is n m t (Data x) e = let w = data_sort t x (is_value x) refl e in rw (w.kind, same_same t)
-data_is n m t (Blank u) e = let q : u ≡ t = cc in rw (q, same_same t)
+data_is n m t (Data x) e = let w = data_sort t x (is_value x) refl e in rw (w.kind, kind_same t)
+data_is n m t (Blank u) e = let q : u ≡ t = cc in rw (q, kind_same t)
 
 -- a value on the stack
 pub stacked_is : (cs : List Cell) (top i : ℕ) (t : Kind) → i < top → sort (peek cs (top - (i + 1))) ≡ is_work t → (x : Value) × (stacked top i cs ≡ Ok x) × Valid t x
-stacked_is cs top i t l e = let w = working_is t (peek cs (top - (i + 1))) e in (w.0, rw (ltb_yes i top l) w.1, w.2)
-
-pub length_marks : (x link mp ep : ℕ) (cs : List Cell) → length (marks x link mp ep cs) ≡ length cs
-length_marks x link mp ep cs = simp length-set
+stacked_is cs top i t l e = let w = working_is t (peek cs (top - (i + 1))) e in (w.0, rw (lt-ltb i top l) w.1, w.2)
 
 -- the five cells of a mark
 pub marks_stand : (cs : List Cell) (K : List Sort) (x link mp ep : ℕ) → x ≡ length K → x + 4 < length cs → Stands cs K →
@@ -279,7 +246,7 @@ next_may t [] = omega arith
 next_may t (x ∷ xs) = by (same (kind_of x) t) (is_value x) refl refl
   where
     by : (a b : Bool) → same (kind_of x) t ≡ a → is_value x ≡ b → Safe (Valid t) (cond (a && b) (Ok x) (Err WrongInput))
-    by true true p q = record { value = q; kind = same_is (kind_of x) t p }
+    by true true p q = record { value = q; kind = same_kind (kind_of x) t p }
     by true false p q = omega arith
     by false b p q = omega arith
 

@@ -3,7 +3,7 @@ use Rattle.std.proofs.Common.{◌≡◌, ℕ, ◌+◌, ◌<◌, ◌≤◌, Bool,
 use lib.Ieee as Ieee
 use Rattle.std.specs.Float.{float_is_finite}
 use Rattle.std.specs.Option.{option_map}
-use Rattle.std.proofs.lemmas.Bool.{leb-true, eqb-true, and_parts}
+use Rattle.std.proofs.lemmas.Bool.{leb-true, lt-ltb, eqb-true, ne_eqb, and_parts}
 use Rattle.sheet.specs.declared.kind.Kind.{Kind}
 use Rattle.sheet.specs.declared.kind.Kind.TheVariants as k
 use Rattle.sheet.specs.declared.mnemonic.Mnemonic.{Mnemonic}
@@ -46,7 +46,6 @@ use Rattle.machine.specs.declared.operation.Operation.TheVariants.{Two, One, Ldc
 use Rattle.machine.specs.Decoding.{with_both, small, label, truth, character, real_constant, decode_by}
 use Rattle.machine.specs.States.{code_at}
 use Rattle.soundness.specs.Frames.{Rows}
-use Rattle.soundness.proofs.Cells.{eqb_no, ltb_yes}
 use Rattle.soundness.proofs.Rules.{declaration, laid, left, right, both_give, one_takes, one_gives, gave, room, begins, CellOf, Declared, Handed, Flow}
 use Rattle.soundness.proofs.Stacks.{length_laid}
 use Rattle.soundness.proofs.Takes.{taken_is, mark_taken, few, parameters_taken, parameters_length, data_length, cell_is, any_cell, low_cell}
@@ -80,7 +79,7 @@ two_operands : (P : (p q : ℤ) → Type 0) (p q : ℤ) (i j : ℕ) → p ≡ po
 two_operands P p q i j e f h = subst (λ (x : ℤ). P x q) (sym e) (subst (λ (x : ℤ). P (pos i) x) (sym f) h)
 
 small_is : (i : ℕ) → i < 65536 → small (pos i) ≡ Some i
-small_is i l = ap (λ (b : Bool). cond b (Some i) None) (ltb_yes i 65536 l)
+small_is i l = ap (λ (b : Bool). cond b (Some i) None) (lt-ltb i 65536 l)
 
 both_small : (f : ℕ → ℕ → Operation) (i j : ℕ) → i < 65536 → j < 65536 → with_both (small (pos i)) (small (pos j)) f ≡ Some (f i j)
 both_small f i j a b = ap (λ (x : Option ℕ). with_both x (small (pos j)) f) (small_is i a) ∙ ap (option_map (f i)) (small_is j b)
@@ -145,12 +144,12 @@ module _ (T : Contents) (rows : Rows) (n : ℕ) (ρ : Stack) (rules : TableRule 
   handed_next σ f h r = record {
     meets = r;
     inside = eqb-true (owner T (n + 1)) (owner T n) (and_parts (ltb (n + 1) (length T.code)) (eqb (owner T (n + 1)) (owner T n)) h).1;
-    later = eqb_no (n + 1) (procedure_at T (owner T n)).first (λ e. let b = (owner_begins_last T rules n).begins in omega arith);
+    later = ne_eqb (n + 1) (procedure_at T (owner T n)).first (λ e. let b = (owner_begins_last T rules n).begins in omega arith);
     fits = f;
   }
 
   handed_label : (q : ℕ) (σ : Stack) → cells_on σ ≤ room_at T n → owner T q ≡ owner T n → (q ≡ (procedure_at T (owner T n)).first → ⊥) → rows q ≡ Some σ → Handed T rows n q σ
-  handed_label q σ f o l r = record { meets = r; inside = o; later = eqb_no q (procedure_at T (owner T n)).first l; fits = f }
+  handed_label q σ f o l r = record { meets = r; inside = o; later = ne_eqb q (procedure_at T (owner T n)).first l; fits = f }
 
   record Nexted (ts : Takes) (gs : Gives) : Type 0 where
     rest : Stack
@@ -200,11 +199,11 @@ module _ (T : Contents) (rows : Rows) (n : ℕ) (ρ : Stack) (rules : TableRule 
     constant_case k.Address u p q o e = ldc_case (v.Address (record { 0 = q })) refl e
     constant_case k.Boolean u p q o e =
         means_as (option_map Ldc (truth q)) (Some (Ldc (v.Boolean (eqb o.0 1)))) false
-        (ap (λ (z : ℤ). option_map Ldc (truth z)) o.1 ∙ ap (λ (b : Bool). option_map Ldc (cond b (Some (v.Boolean (eqb o.0 1))) None)) (ltb_yes o.0 2 (let l = o.2 in omega arith)))
+        (ap (λ (z : ℤ). option_map Ldc (truth z)) o.1 ∙ ap (λ (b : Bool). option_map Ldc (cond b (Some (v.Boolean (eqb o.0 1))) None)) (lt-ltb o.0 2 (let l = o.2 in omega arith)))
         (ldc_case (v.Boolean (eqb o.0 1)) refl e)
     constant_case k.Character u p q o e =
         means_as (option_map Ldc (character q)) (Some (Ldc (v.Character o.0))) false
-        (ap (λ (z : ℤ). option_map Ldc (character z)) o.1 ∙ ap (λ (b : Bool). option_map Ldc (cond b (Some (v.Character o.0)) None)) (ltb_yes o.0 256 (let l = o.2 in omega arith)))
+        (ap (λ (z : ℤ). option_map Ldc (character z)) o.1 ∙ ap (λ (b : Bool). option_map Ldc (cond b (Some (v.Character o.0)) None)) (lt-ltb o.0 256 (let l = o.2 in omega arith)))
         (ldc_case (v.Character o.0) refl e)
     constant_case k.Integer u p q o e = ldc_case (v.Integer q) refl e
     constant_case k.Real u p q o e = ldc_case (v.Real (real_constant q)) (constant_finite q) e

@@ -1,5 +1,6 @@
 -- The instructions that stay in their frame.
 use Rattle.std.proofs.Common.{◌≡◌, ℕ, zero, suc, ◌+◌, ◌-◌, ◌<◌, ◌≤◌, Bool, true, false, cond, not, eqb, ltb, List, ◌∷◌, ◌++◌, length, ℤ, pos, negsuc, Some, Ok, sym, refl, ap, ◌∙◌, subst, inl, inr, arith}
+use Rattle.std.proofs.lemmas.Bool.{le-leb}
 use Rattle.sheet.specs.declared.kind.Kind.{Kind}
 use Rattle.sheet.specs.declared.kind.Kind.TheVariants as k
 use Rattle.sheet.specs.declared.operation.Binary.{Binary}
@@ -22,10 +23,11 @@ use Rattle.machine.specs.Leaves.{held, stacked, typed, base, reached, load, stor
 use Rattle.machine.specs.States.{State, code_at, regs_at, dropped, with_cell, pushed}
 use Rattle.machine.specs.Steps.{two, one, ldc, dpl, lod, str, lda, ind, sto, ujp, fjp, inp, out, mst}
 use Rattle.arith.specs.Operations.{binary_result, unary_result}
+use Rattle.machine.proofs.Lengths.{length_put, length_marks}
 use Rattle.soundness.specs.Frames.{Rows}
 use Rattle.soundness.proofs.Rules.{declaration, left, right, both_give, one_takes, one_gives, room, CellOf, Declared, Handed}
 use Rattle.soundness.proofs.Invariant.{Sort, is_at, is_work, is_data, sort, Stands, Frame, Frames, ground, over, place_of, ep_of, procedure_of, up, Under, result_sort, foot, links, deck, shape, Good, Sound, Safe}
-use Rattle.soundness.proofs.Cells.{leb_yes, safe_bind, bind_ok, demand_ok, demand_may, length_put, stands_same, stands_push, stands_at, Real, stands_real, Valid, sort_work, sort_data, of_kind_is, held_is, held_may, next_may, put_may, data_is, data_cases, stacked_is, length_marks, marks_stand}
+use Rattle.soundness.proofs.Cells.{safe_bind, bind_ok, demand_ok, demand_may, stands_same, stands_push, stands_at, Real, stands_real, Valid, sort_work, sort_data, of_kind_is, held_is, held_may, next_may, put_may, data_is, data_cases, stacked_is, marks_stand}
 use Rattle.soundness.proofs.Stacks.{length_row, length_laid, good_place, up_is, entered_under, at_declared, at_under, base_is, good_under, main_under, filled_shape}
 use Rattle.soundness.proofs.Values.{valid, address_is, boolean_is, binary_may, unary_may}
 
@@ -97,7 +99,7 @@ module _ (T : Contents) (rows : Rows) (s : State) (S : Sound T rows s) (en : S.t
   pushing q n t x σ cs h' w e l st h =
       let m = low σ in
       let (r₁, r₂) = in_room q (entry.Value t ∷ σ) h in
-      demand_ok (Sound T rows) _ StackFull _ (leb_yes (s.regs.height - n) s.regs.ep (omega arith))
+      demand_ok (Sound T rows) _ StackFull _ (le-leb (s.regs.height - n) s.regs.ep (omega arith))
       (went_on q (s.regs.height - n + 1) (put cs (s.regs.height - n) (Working x)) h' (entry.Value t ∷ σ) h (length_put cs (s.regs.height - n) (Working x) ∙ l)
       (stands_push cs (shaped σ) (s.regs.height - n) (Working x) (is_work t) (omega arith) (omega arith) (sort_work t x w) st)
       (omega arith))
@@ -233,7 +235,7 @@ module _ (T : Contents) (rows : Rows) (s : State) (S : Sound T rows s) (en : S.t
   inp_safe t h =
       let (r₁, r₂) = in_room (S.now + 1) (entry.Value t ∷ S.top.row) h in
       let e = S.sp_is in
-      demand_ok (Sound T rows) _ StackFull _ (leb_yes s.regs.height s.regs.ep (omega arith))
+      demand_ok (Sound T rows) _ StackFull _ (le-leb s.regs.height s.regs.ep (omega arith))
       (safe_bind (Valid t) (Sound T rows) (next_value t s.host.waiting) _ (next_may t s.host.waiting) (λ x w. more (S.now + 1) t x (taken t s.host) w h))
 
   pub out_safe : (t : Kind) (σ : Stack) → S.top.row ≡ entry.Value t ∷ σ → Handed T rows S.now (S.now + 1) σ → Safe (Sound T rows) (out t (code_at (S.now + 1)) s)
@@ -273,7 +275,7 @@ module _ (T : Contents) (rows : Rows) (s : State) (S : Sound T rows s) (en : S.t
       let e₁ = S.sp_is in
       let st = marks_stand s.cells (shape T k) s.regs.height (place_of (up p k)) s.regs.mp s.regs.ep S.sp_is (omega arith) S.stands in
       bind_ok (Sound T rows) _ _ _ (based p a e)
-      (demand_ok (Sound T rows) _ StackFull _ (leb_yes (s.regs.height + 4) s.regs.ep (omega arith))
+      (demand_ok (Sound T rows) _ StackFull _ (le-leb (s.regs.height + 4) s.regs.ep (omega arith))
       (went_on (S.now + 1) (s.regs.height + 5) (marks s.regs.height (place_of (up p k)) s.regs.mp s.regs.ep s.cells) s.host (entry.Mark p ∷ S.top.row) h
       (length_marks s.regs.height (place_of (up p k)) s.regs.mp s.regs.ep s.cells) (shifted (shape T k) _ (links_is S.below S.parent S.top p) S.mp_is S.ep_is st) (omega arith)))
     where

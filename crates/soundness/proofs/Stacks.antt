@@ -1,6 +1,7 @@
 -- Laws of the open frames.
 use Rattle.std.proofs.Common.{◌≡◌, ℕ, zero, suc, ◌+◌, ◌≤◌, Bool, true, false, List, [], ◌∷◌, ◌++◌, length, Some, None, Ok, Option, sym, refl, ap, subst, inl, inr, arith}
 use Rattle.std.specs.List.{slice_get}
+use Rattle.std.proofs.lemmas.Bool.{lt-ltb}
 use Rattle.sheet.specs.declared.kind.Kind.{Kind}
 use Rattle.sheet.specs.Tables.{Contents}
 use Rattle.rules.specs.Lookups.{ancestor}
@@ -12,7 +13,7 @@ use Rattle.machine.specs.States.{State}
 use Rattle.soundness.specs.Frames.{Rows}
 use Rattle.soundness.proofs.Rules.{Declaration, declaration, laid, Declared}
 use Rattle.soundness.proofs.Invariant.{Sort, is_at, is_data, Stands, Frame, Frames, ground, over, place_of, ep_of, procedure_of, up, Under, row_sorts, result_sort, data_sorts, foot, links, deck, shape, Good}
-use Rattle.soundness.proofs.Cells.{Real, Filled, At, stands_at, placed_is, ltb_yes}
+use Rattle.soundness.proofs.Cells.{Real, Filled, At, stands_at, placed_is}
 
 pub length_row : (e m : ℕ) (l : ℕ → ℕ) (ρ : Stack) (K : List Sort) → length (row_sorts e m l ρ K) ≡ cells_on ρ + length K
 length_row e m l [] K = omega arith
@@ -152,7 +153,7 @@ module _ (T : Contents) (rows : Rows) (len : ℕ) where
         (stands_at s.cells (shape T k) (f.place + 1) (is_at (place_of p)) st
         (at_under k (over b p f) (f.place + 1) (is_at (place_of p)) v
         (at_foot b p f (f.place + 1) (is_at (place_of p)) (inr (inr (inr (inl (omega arith, refl)))))))) in
-        rw (num, ltb_yes (place_of p) s.regs.mp (omega arith))
+        rw (num, lt-ltb (place_of p) s.regs.mp (omega arith))
         (base_is n a p (under_trans k (over b p f) p (inr w) v) (omega arith) (rw q e₁))
 
   -- the frame of procedure 0

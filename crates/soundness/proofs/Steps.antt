@@ -1,6 +1,7 @@
 -- One step of a table that keeps the rules keeps the frames, and a run begins with its frame.
 use Rattle.std.proofs.Common.{◌≡◌, ℕ, ◌+◌, ◌-◌, ◌≤◌, Bool, true, false, cond, not, eqb, [], length, pos, Some, None, Ok, Err, Option, Result, sym, refl, ap, ◌∙◌, subst, arith}
 use lib.ListN.{length-replicate}
+use Rattle.std.proofs.lemmas.Bool.{lt-ltb, eq-eqb}
 use Rattle.sheet.specs.declared.kind.Kind.{Kind}
 use Rattle.sheet.specs.declared.place.CodePlace.{CodePlace}
 use Rattle.sheet.specs.Tables.{Contents}
@@ -19,7 +20,6 @@ use Rattle.machine.specs.Steps.{ujp, perform, fetched, step_by, step}
 use Rattle.soundness.specs.Frames.{Rows, operation_at}
 use Rattle.soundness.proofs.Rules.{declaration, begins, Flow}
 use Rattle.soundness.proofs.Invariant.{ground, Sound, Safe, EndsWell, Keeps, Starts}
-use Rattle.soundness.proofs.Cells.{eqb_yes, ltb_yes}
 use Rattle.soundness.proofs.Inside.{two_safe, one_safe, ldc_safe, dpl_safe, ldo_safe, sro_safe, lod_safe, str_safe, lda_safe, ind_safe, sto_safe, ujp_safe, fjp_safe, inp_safe, out_safe, mst_safe}
 use Rattle.soundness.proofs.Calls.{cup_safe, enter_safe, leave_safe, leave_plain_safe}
 
@@ -67,7 +67,7 @@ module _ (T : Contents) (rows : Rows) (s : State) (S : Sound T rows s) where
 pub keeps : Keeps
 keeps T rows J s S =
     let r = J.rule S.now S.top.row S.row_is in
-    let there : fetched T (pos S.now) ≡ Some r.operation = ap (λ (b : Bool). cond b (operation_at T S.now) None) (ltb_yes S.now 4096 r.inside) ∙ r.there in
+    let there : fetched T (pos S.now) ≡ Some r.operation = ap (λ (b : Bool). cond b (operation_at T S.now) None) (lt-ltb S.now 4096 r.inside) ∙ r.there in
     let e : step T s ≡ perform T S.now r.operation s =
     ap (λ (c : CodePlace). step_by T (natural c.0) (fetched T c.0) s) S.pc_is ∙ ap (λ (i : Option Operation). step_by T S.now i s) there in
     subst (λ (x : Result State Ending). EndsWell (Sound T rows) x) (sym e) (by_operation T rows s S r.operation r.there r.starts r.flow)
@@ -90,6 +90,6 @@ starts T rows J len h wide = record {
   last_is = let e = length_begun len wide in omega arith;
   row_is = J.begin;
   own = J.own;
-  entered = sym (ap not (eqb_yes 0 (declaration T 0).first (sym J.first)));
+  entered = sym (ap not (eq-eqb 0 (declaration T 0).first (sym J.first)));
   fitted = λ (z : false ≡ true). absurd (let w : ◌≡◌ {A = ℕ} 0 1 = cc in omega arith);
 }

@@ -1,11 +1,12 @@
 -- What is taken off a stack, and what a procedure declares, as lists.
-use Rattle.std.proofs.Common.{◌≡◌, ℕ, zero, suc, ◌+◌, ◌-◌, ◌<◌, ◌≤◌, Bool, true, false, cond, eqb, ltb, leb, ◌⊎◌, List, [], ◌∷◌, ◌++◌, map, length, take, drop, Some, None, Option, sym, refl, ap, ◌∙◌, subst, inl, inr, arith, length-drop, take-append-drop, length-take-le, take-take}
+use Rattle.std.proofs.Common.{◌≡◌, ℕ, zero, suc, ◌+◌, ◌-◌, ◌<◌, ◌≤◌, Bool, true, false, cond, eqb, ltb, leb, ◌⊎◌, List, [], ◌∷◌, ◌++◌, map, length, get_or, take, drop, Some, None, Option, sym, refl, ap, ◌∙◌, subst, inl, inr, arith, length-drop, take-append-drop, length-take-le, take-take}
 use mathlib.Core.List.{reverse_aux}
 use Rattle.std.specs.List.{slice_get}
 use Rattle.std.proofs.lemmas.List.{get_or_past}
-use Rattle.std.proofs.lemmas.Option.{slice_get-get_or}
+use Rattle.std.proofs.lemmas.Option.{slice_get-get_or, slice_get_within}
 use Rattle.std.proofs.lemmas.Bool.{leb-true, ltb-true, eqb-true, and_parts, cases_lt}
 use Rattle.sheet.specs.declared.kind.Kind.{Kind}
+use Rattle.sheet.specs.declared.kind.Kind.TheVariants.{Address}
 use Rattle.sheet.specs.declared.procedure.Procedure.{Procedure}
 use Rattle.sheet.specs.Kinds.{same}
 use Rattle.sheet.specs.Tables.{Contents}
@@ -14,14 +15,9 @@ use Rattle.rules.specs.Operands.{is_cell, kind_at}
 use Rattle.rules.specs.ProcedureLaws.{TableRule}
 use Rattle.rows.specs.declared.entry.Entry.TheVariants as entry
 use Rattle.transfer.specs.Stacks.{Stack, parameters_down, less_kinds, leads_to, less_mark}
+use Rattle.judge.proofs.Inside.{same_kind}
 use Rattle.machine.specs.Frames.{data_kinds, parameter_kinds}
-use Rattle.soundness.proofs.Cells.{same_is}
 use Rattle.soundness.proofs.Rules.{laid, declaration, CellOf}
-
-pub element : {A : Type 0} (xs : List A) (n : ℕ) → n < length xs → (x : A) × (slice_get xs n ≡ Some x)
-element [] n l = absurd (omega arith)
-element (x ∷ xs) zero l = (x, refl)
-element (x ∷ xs) (suc n) l = element xs n (omega arith)
 
 nth_drop : {A : Type 0} (o j : ℕ) (xs : List A) → slice_get (drop o xs) j ≡ slice_get xs (o + j)
 nth_drop zero j xs = let e : 0 + j ≡ j = omega arith in ap (λ (i : ℕ). slice_get xs i) (sym e)
@@ -45,7 +41,7 @@ taken_is (t ∷ ts) [] σ e = absurd (let z : ◌≡◌ {A = ℕ} 0 1 = cc in om
 taken_is (t ∷ ts) (entry.Value u ∷ ρ) σ e = by (taken_is ts ρ σ) (same u t) refl e
   where
     by : (less_kinds ts ρ ≡ Some σ → ρ ≡ values ts σ) → (b : Bool) → same u t ≡ b → cond b (less_kinds ts ρ) None ≡ Some σ → entry.Value u ∷ ρ ≡ entry.Value t ∷ values ts σ
-    by more true q e = let p = same_is u t q in let r = more e in cc
+    by more true q e = let p = same_kind u t q in let r = more e in cc
     by more false q e = absurd (let z : ◌≡◌ {A = ℕ} 0 1 = cc in omega arith)
 taken_is (t ∷ ts) (entry.Mark j ∷ ρ) σ e = absurd (let z : ◌≡◌ {A = ℕ} 0 1 = cc in omega arith)
 
@@ -134,19 +130,14 @@ module _ (T : Contents) (rules : TableRule T) where
   pub any_cell : (i q : ℕ) → 5 ≤ q → q < 5 + (procedure_at T i).count → (t : Kind) × CellOf (declaration T i) q t
   any_cell i q l u =
       let d = data_length i in
-      let x = element ((declaration T i).parameters ++ (declaration T i).locals) (q - 5) (omega arith) in
-      (x.0, (q - 5, omega arith, x.1))
+      let own = (declaration T i).parameters ++ (declaration T i).locals in
+      (get_or own (q - 5) Address, (q - 5, omega arith, slice_get-get_or own (q - 5) Address (omega arith)))
 
   -- offsets are small
   pub low_cell : (i q : ℕ) (t : Kind) → CellOf (declaration T i) q t → q < 65536
   low_cell i q t c =
       let d = data_length i in
       let f = (few i).0 in
-      let n = nth_inside ((declaration T i).parameters ++ (declaration T i).locals) c.0 t c.2 in
+      let n = slice_get_within ((declaration T i).parameters ++ (declaration T i).locals) c.0 t c.2 in
       let e = c.1 in
       omega arith
-    where
-      nth_inside : (xs : List Kind) (j : ℕ) (t : Kind) → slice_get xs j ≡ Some t → j < length xs
-      nth_inside [] j t e = absurd (let z : ◌≡◌ {A = ℕ} 0 1 = cc in omega arith)
-      nth_inside (x ∷ xs) zero t e = omega arith
-      nth_inside (x ∷ xs) (suc j) t e = let h = nth_inside xs j t e in omega arith

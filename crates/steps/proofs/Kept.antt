@@ -1,11 +1,11 @@
 -- A step keeps the length of the store and NP.
-use Rattle.std.proofs.Common.{◌≡◌, ℕ, ◌+◌, ◌-◌, ◌&&◌, ltb, leb, List, [], ◌∷◌, length, pos, Some, None, Ok, Err, Option, Result, sym, refl, ap, ◌∙◌, subst, arith, length-set}
+use Rattle.std.proofs.Common.{◌≡◌, ℕ, ◌+◌, ◌-◌, ◌&&◌, ltb, leb, List, length, pos, Ok, Err, Option, Result, sym, refl, ap, ◌∙◌, subst, arith}
 use Rattle.sheet.specs.declared.kind.Kind.{Kind}
 use Rattle.sheet.specs.declared.operation.Binary.{Binary}
 use Rattle.sheet.specs.declared.operation.Unary.{Unary}
 use Rattle.sheet.specs.declared.place.CodePlace.{CodePlace}
 use Rattle.sheet.specs.declared.procedure.Procedure.{Procedure}
-use Rattle.sheet.specs.declared.stop.Stop.TheVariants.{NoDataCell, OtherKindOfCell, WrongCell, WrongMark, StackFull, StoreFull, OutsideCode}
+use Rattle.sheet.specs.declared.stop.Stop.TheVariants.{NoDataCell, OtherKindOfCell, WrongCell, WrongMark, StackFull, StoreFull}
 use Rattle.sheet.specs.declared.value.Value.{Value}
 use Rattle.sheet.specs.declared.value.Value.TheVariants.{Address}
 use Rattle.sheet.specs.Tables.{Contents}
@@ -14,19 +14,22 @@ use Rattle.arith.specs.Operations.{binary_result, unary_result}
 use Rattle.sheet.specs.Payloads.{address_in, boolean_in}
 use Rattle.rules.specs.Lookups.{natural, owner, procedure_at}
 use Rattle.store.specs.declared.cell.Cell.{Cell}
-use Rattle.store.specs.declared.cell.Cell.TheVariants.{Mark, Working, Data, Blank}
-use Rattle.store.specs.Cells.{peek, put, clean}
+use Rattle.store.specs.declared.cell.Cell.TheVariants.{Mark, Working, Data}
+use Rattle.store.specs.Cells.{peek}
 use Rattle.machine.specs.declared.ending.Ending.{Ending}
 use Rattle.machine.specs.declared.ending.Ending.TheVariants.{Halted, Stopped}
+use Rattle.machine.specs.declared.machine.Machine.{Machine}
 use Rattle.machine.specs.declared.operation.Operation.{Operation}
 use Rattle.machine.specs.declared.operation.Operation.TheVariants.{Two, One, Ldc, Dpl, Ldo, Sro, Lod, Str, Lda, Ind, Sto, Ujp, Fjp, In, Out, Mst, Cup, Ent, Retf, Retp, Hlt}
 use Rattle.machine.specs.declared.registers.Registers.{Registers}
 use Rattle.machine.specs.Endings.{stopping}
 use Rattle.machine.specs.Frames as frame
 use Rattle.machine.specs.Leaves.{mark_in, place_in, stacked, typed, base, held, writable, reached, load, store}
+use Rattle.machine.specs.Machine.{CarriesOutWith, state_of}
 use Rattle.machine.specs.States.{State, Outcome, last, height, mp, ep, code_at, regs_at, pushed, dropped, ended, gives}
 use Rattle.machine.specs.Steps as step
-use Rattle.host.specs.Hosts.{next_value, put_answer}
+use Rattle.machine.proofs.Lengths.{length_put, length_marks, length_settle, length_clear, length_result}
+use Rattle.host.specs.Hosts.{Meaning, next_value, put_answer}
 
 pub record Kept (s t : State) : Type 0 where
   pub long : length t.cells ≡ length s.cells
@@ -50,11 +53,8 @@ then (Err w) h = λ t q. never w t q
 only : {s u : State} → Kept s u → (t : State) → ◌≡◌ {A = Answer State} (Ok u) (Ok t) → Kept s t
 only {s = s} k t q = let e : _ ≡ t = cc in subst (λ (x : State). Kept s x) e k
 
-put_long : (cs : List Cell) (x : ℕ) (c : Cell) → length (put cs x c) ≡ length cs
-put_long cs x c = length-set cs x (clean c)
-
 push : (s : State) (y : Value) (c : CodePlace) (n : ℕ) → Keeps s (pushed y (dropped c n s))
-push s y c n = then (demand (leb (height s - n) (ep s)) StackFull) (only (record { long = put_long s.cells (height s - n) (Working y); last = refl }))
+push s y c n = then (demand (leb (height s - n) (ep s)) StackFull) (only (record { long = length_put s.cells (height s - n) (Working y); last = refl }))
 
 load_keeps : (c : CodePlace) (t : Kind) (x : ℕ) (s : State) → Keeps s (load c t x s)
 load_keeps c t x s = bind (held WrongCell WrongCell t (peek s.cells x)) (λ y. push s y c 0)
@@ -62,7 +62,7 @@ load_keeps c t x s = bind (held WrongCell WrongCell t (peek s.cells x)) (λ y. p
 store_keeps : (c : CodePlace) (t : Kind) (x : ℕ) (s : State) → Keeps s (store c t x s)
 store_keeps c t x s =
     bind (typed t (height s) 0 s.cells) (λ y.
-    then (writable WrongCell WrongCell t (peek s.cells x)) (only (record { long = put_long s.cells x (Data y); last = refl })))
+    then (writable WrongCell WrongCell t (peek s.cells x)) (only (record { long = length_put s.cells x (Data y); last = refl })))
 
 two_keeps : (f : Binary) (c : CodePlace) (s : State) → Keeps s (step.two f c s)
 two_keeps f c s =
@@ -91,7 +91,7 @@ ind_keeps t c s =
 sto_keeps : (t : Kind) (c : CodePlace) (s : State) → Keeps s (step.sto t c s)
 sto_keeps t c s =
     bind (typed t (height s) 0 s.cells) (λ y. bind (stacked (height s) 1 s.cells) (λ a. bind (address_in a) (λ z. bind (reached z.0 (height s)) (λ x.
-    then (writable NoDataCell OtherKindOfCell t (peek s.cells x)) (only (record { long = put_long s.cells x (Data y); last = refl }))))))
+    then (writable NoDataCell OtherKindOfCell t (peek s.cells x)) (only (record { long = length_put s.cells x (Data y); last = refl }))))))
 
 fjp_keeps : (q c : CodePlace) (s : State) → Keeps s (step.fjp q c s)
 fjp_keeps q c s = bind (stacked (height s) 0 s.cells) (λ x. bind (boolean_in x) (λ b. only (record { long = refl; last = refl })))
@@ -99,44 +99,25 @@ fjp_keeps q c s = bind (stacked (height s) 0 s.cells) (λ x. bind (boolean_in x)
 inp_keeps : (t : Kind) (c : CodePlace) (s : State) → Keeps s (step.inp t c s)
 inp_keeps t c s =
     then (demand (leb (height s) (ep s)) StackFull) (bind (next_value t s.host.waiting) (λ x.
-    then (demand (leb (height s - 0) (ep s)) StackFull) (only (record { long = put_long s.cells (height s - 0) (Working x); last = refl }))))
+    then (demand (leb (height s - 0) (ep s)) StackFull) (only (record { long = length_put s.cells (height s - 0) (Working x); last = refl }))))
 
 out_keeps : (t : Kind) (c : CodePlace) (s : State) → Keeps s (step.out t c s)
 out_keeps t c s = bind (typed t (height s) 0 s.cells) (λ x. then (put_answer s.host.room) (only (record { long = refl; last = refl })))
 
-marks_long : (x l m e : ℕ) (cs : List Cell) → length (frame.marks x l m e cs) ≡ length cs
-marks_long x l m e cs =
-    put_long _ (x + 4) (frame.place 0) ∙ (put_long _ (x + 3) (frame.place e) ∙ (put_long _ (x + 2) (frame.place m)
-    ∙ (put_long _ (x + 1) (frame.place l) ∙ put_long cs x (frame.place 0))))
-
 mst_keeps : (p : ℕ) (c : CodePlace) (s : State) → Keeps s (step.mst p c s)
 mst_keeps p c s =
     bind (base p (mp s) (mp s) s.cells) (λ x. then (demand (leb (height s + 4) (ep s)) StackFull)
-    (only (record { long = marks_long (height s) x (mp s) (ep s) s.cells; last = refl })))
+    (only (record { long = length_marks (height s) x (mp s) (ep s) s.cells; last = refl })))
 
 call_keeps : (T : Contents) (P : Procedure) (c q : CodePlace) (n : ℕ) (s : State) → Keeps s (frame.call T P c q n s)
 call_keeps T P c q n s =
     let m = height s - (n + 5) in
     then (demand (leb (n + 5) (height s) && leb m (last s)) WrongMark) (then (frame.marked m s) (then (frame.passed (frame.parameter_kinds T P) (m + 5) s.cells)
-    (only (record { long = put_long s.cells (m + 4) (Mark c.0); last = refl }))))
-
-settle_long : (ts : List Kind) (x : ℕ) (cs : List Cell) → length (frame.settle ts x cs) ≡ length cs
-unfolding frame.settle
-settle_long [] x cs = refl
-settle_long (t ∷ ts) x cs = settle_long ts (x + 1) (put cs x (frame.settled (peek cs x))) ∙ put_long cs x (frame.settled (peek cs x))
-
-clear_long : (ts : List Kind) (x : ℕ) (cs : List Cell) → length (frame.clear ts x cs) ≡ length cs
-unfolding frame.clear
-clear_long [] x cs = refl
-clear_long (t ∷ ts) x cs = clear_long ts (x + 1) (put cs x (Blank t)) ∙ put_long cs x (Blank t)
-
-result_long : (r : Option Kind) (x : ℕ) (cs : List Cell) → length (frame.result_cell r x cs) ≡ length cs
-result_long None x cs = refl
-result_long (Some t) x cs = put_long cs x (Blank t)
+    (only (record { long = length_put s.cells (m + 4) (Mark c.0); last = refl }))))
 
 opened_long : (T : Contents) (P : Procedure) (m : ℕ) (cs : List Cell) → length (frame.opened T P m cs) ≡ length cs
 opened_long T P m cs =
-    result_long P.result m _ ∙ (clear_long (frame.local_kinds T P) _ _ ∙ settle_long (frame.parameter_kinds T P) (m + 5) cs)
+    length_result P.result m _ ∙ (length_clear (frame.local_kinds T P) _ _ ∙ length_settle (frame.parameter_kinds T P) (m + 5) cs)
 
 enter_keeps : (T : Contents) (P : Procedure) (c : CodePlace) (p q : ℕ) (s : State) → Keeps s (frame.enter T P c p q s)
 enter_keeps T P c p q s =
@@ -163,7 +144,7 @@ back_keeps x s f h =
 value_keeps : (r : Option Kind) (s : State) → Keeps s (frame.return_value r s)
 value_keeps r s =
     back_keeps (mp s + 1) s _ (λ regs l. bind (frame.result_in r (peek s.cells (mp s))) (λ y.
-    only (record { long = put_long s.cells (mp s) (Working y); last = l })))
+    only (record { long = length_put s.cells (mp s) (Working y); last = l })))
 
 plain_keeps : (s : State) → Keeps s (frame.return_plain s)
 plain_keeps s = back_keeps (mp s) s _ (λ regs l. only (record { long = refl; last = l }))
@@ -198,13 +179,11 @@ perform_keeps T n Retf s = stops (step.retf T n s) (value_keeps (procedure_at T 
 perform_keeps T n Retp s = stops (frame.return_plain s) (plain_keeps s)
 perform_keeps T n Hlt s = λ t q. never Halted t q
 
-by_keeps : (T : Contents) (n : ℕ) (i : Option Operation) (s : State) → Holds s (step.step_by T n i s)
-by_keeps T n None s = λ t q. never (Stopped OutsideCode) t q
-by_keeps T n (Some i) s = perform_keeps T n i s
-
 left : (s t : State) (r : Result (Unit {0}) Ending) (a : Result State Ending) → Holds s a → gives r t ≡ ended s a → Kept s t
 left s t r (Ok u) k e = let q : t ≡ u = ap (λ (o : Outcome Ending). o.state) e in k t (ap Ok (sym q))
 left s t r (Err w) k e = let q : t ≡ s = ap (λ (o : Outcome Ending). o.state) e in subst (λ (x : State). Kept s x) (sym q) (record { long = refl; last = refl })
 
-pub step_keeps : (T : Contents) (s t : State) (r : Result (Unit {0}) Ending) → gives r t ≡ ended s (step.step T s) → Kept s t
-step_keeps T s t r e = left s t r (step.step T s) (by_keeps T (natural s.regs.pc.0) (step.fetched T s.regs.pc.0) s) e
+pub perform_leaves : {S : Type 0} (cells : S → List Cell) (T : Contents) (n : ℕ) (i : Operation) {before after : Machine S} {h k : Meaning} {r : Result (Unit {0}) Ending}
+    → CarriesOutWith cells r before h after k (step.perform T n i) → Kept (state_of cells before h) (state_of cells after k)
+perform_leaves cells T n i {before = before} {after = after} {h = h} {k = k} {r = r} d =
+    left (state_of cells before h) (state_of cells after k) r (step.perform T n i (state_of cells before h)) (perform_keeps T n i (state_of cells before h)) d.state

@@ -1,4 +1,3 @@
 pub mod Going
 pub mod Kept
 pub mod Outcomes
-pub mod Stepping

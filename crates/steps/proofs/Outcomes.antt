@@ -34,18 +34,20 @@ carried T n s {i = i} {j = j} {next = next} {t = t} is at_next f performed answe
     ∙ (ap (λ (x : Result State Ending). ended s x) (sym performed)
     ∙ ap (λ (x : Operation). ended s (perform T n x s)) (sym is)))))
 
-module _ {S : Type 0} (cells : S → List Cell) (T : Contents) (n : ℕ) where
-  pub carried_out : (h : Meaning) {before after : Machine S} {i j : Operation} {next : CodePlace} {b : Answer (Unit {0})} {r : Result (Unit {0}) Ending}
-      → i ≡ j → next ≡ code_at (n + 1) → (f : CodePlace → State → Answer State) → ((s : State) → perform T n j s ≡ stopping (f (code_at (n + 1)) s))
-      → r ≡ stopping b → CarriesOut cells b before after (f next) → CarriesOutWith cells r before h after h (perform T n i)
-  carried_out h {before = before} is at_next f performed answered d =
-      record { store = d.store; state = carried T n (state_of cells before h) is at_next f (performed (state_of cells before h)) answered (d.state h) }
+-- the answer, the machine and the host are those that the call gave and left
+module _ {S H : Type 0} (cells : S → List Cell) (T : Contents) (n : ℕ) (means : H → Meaning) {before after m : Machine S} {host k : H} {i j : Operation} {next : CodePlace} {b d : Answer (Unit {0})} {r : Result (Unit {0}) Ending} where
+  pub carried_out : i ≡ j → next ≡ code_at (n + 1) → (f : CodePlace → State → Answer State) → ((s : State) → perform T n j s ≡ stopping (f (code_at (n + 1)) s))
+      → r ≡ stopping d → d ≡ b → m ≡ after → k ≡ host → CarriesOut cells b before after (f next) → CarriesOutWith cells r before (means host) m (means k) (perform T n i)
+  carried_out is at_next f performed answered told machine_is host_is out =
+      let s = state_of cells before (means host) in
+      rw (machine_is, host_is) (record { store = out.store; state = carried T n s is at_next f (performed s) (answered ∙ ap stopping told) (out.state (means host)) })
 
-  pub carried_out_with : {h k : Meaning} {before after : Machine S} {i j : Operation} {next : CodePlace} {b : Answer (Unit {0})} {r : Result (Unit {0}) Ending}
-      → i ≡ j → next ≡ code_at (n + 1) → (f : CodePlace → State → Answer State) → ((s : State) → perform T n j s ≡ stopping (f (code_at (n + 1)) s))
-      → r ≡ stopping b → CarriesOutWith cells b before h after k (f next) → CarriesOutWith cells r before h after k (perform T n i)
-  carried_out_with {h = h} {before = before} is at_next f performed answered d =
-      record { store = d.store; state = carried T n (state_of cells before h) is at_next f (performed (state_of cells before h)) answered d.state }
+  pub carried_out_with : {left : H} → i ≡ j → next ≡ code_at (n + 1) → (f : CodePlace → State → Answer State) → ((s : State) → perform T n j s ≡ stopping (f (code_at (n + 1)) s))
+      → r ≡ stopping d → d ≡ b → m ≡ after → k ≡ left → CarriesOutWith cells b before (means host) after (means left) (f next)
+      → CarriesOutWith cells r before (means host) m (means k) (perform T n i)
+  carried_out_with is at_next f performed answered told machine_is host_is out =
+      let s = state_of cells before (means host) in
+      rw (machine_is, host_is) (record { store = out.store; state = carried T n s is at_next f (performed s) (answered ∙ ap stopping told) out.state })
 
 pub stopped : {b : Answer (Unit {0})} {r : Result (Unit {0}) Ending} {y : Ending} {w : Stop} → r ≡ Err y → y ≡ Stopped w → b ≡ Err w → r ≡ stopping b
 stopped p q e = p ∙ (ap Err q ∙ sym (ap stopping e))

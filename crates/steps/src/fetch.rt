@@ -9,7 +9,7 @@ use machine::operation::Operation;
 use sheet::place::CodePlace;
 use sheet::table::Table;
 
-// The number of the instruction at a place; no table has 4,097.
+// The number of the instruction at a place; no table has 4,097 instructions.
 pub(crate) fn number(place: CodePlace) -> Option<u16>
     ensures { result ≡ number place.0 }
 {

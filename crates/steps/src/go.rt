@@ -18,7 +18,7 @@ pub struct Gone {
     pub ending: Option<Ending>,
 }
 
-// n steps, or as many as there are.
+// n steps, or as many as there are; length and last place are said apart, as at `step`.
 pub fn go_on<S: Store, H: Host>(
     machine: &mut Machine<'_, S>,
     table: Table<'_>,

@@ -36,28 +36,28 @@ pub(crate) fn perform<S: Store, H: Host>(
     ensures { CarriesOutWith S.cells result machine.old (H.means host.old) machine.new (H.means host.new) (perform (contents_of table.entry) n operation) }
 {
     let next = next_place(n);
-    match operation {
-        Operation::Two(op) => two(machine, op, next)?,
-        Operation::One(op) => one(machine, op, next)?,
-        Operation::Ldc(x) => ldc(machine, x, next)?,
-        Operation::Dpl(t) => dpl(machine, t, next)?,
-        Operation::Ldo(t, q) => ldo(machine, t, q, next)?,
-        Operation::Sro(t, q) => sro(machine, t, q, next)?,
-        Operation::Lod(t, p, q) => lod(machine, t, p, q, next)?,
-        Operation::Str(t, p, q) => str(machine, t, p, q, next)?,
-        Operation::Lda(p, q) => lda(machine, p, q, next)?,
-        Operation::Ind(t) => ind(machine, t, next)?,
-        Operation::Sto(t) => sto(machine, t, next)?,
-        Operation::Ujp(q) => ujp(machine, q)?,
-        Operation::Fjp(q) => fjp(machine, q, next)?,
-        Operation::In(t) => input(machine, t, next, host)?,
-        Operation::Out(t) => output(machine, t, next, host)?,
-        Operation::Mst(p) => mst(machine, p, next)?,
-        Operation::Cup(p, q) => cup(machine, table, p, q, next)?,
-        Operation::Ent(p, q) => ent(machine, table, n as usize, p, q, next)?,
-        Operation::Retf => retf(machine, table, n as usize)?,
-        Operation::Retp => retp(machine)?,
+    let done = match operation {
+        Operation::Two(op) => two(machine, op, next),
+        Operation::One(op) => one(machine, op, next),
+        Operation::Ldc(x) => ldc(machine, x, next),
+        Operation::Dpl(t) => dpl(machine, t, next),
+        Operation::Ldo(t, q) => ldo(machine, t, q, next),
+        Operation::Sro(t, q) => sro(machine, t, q, next),
+        Operation::Lod(t, p, q) => lod(machine, t, p, q, next),
+        Operation::Str(t, p, q) => str(machine, t, p, q, next),
+        Operation::Lda(p, q) => lda(machine, p, q, next),
+        Operation::Ind(t) => ind(machine, t, next),
+        Operation::Sto(t) => sto(machine, t, next),
+        Operation::Ujp(q) => ujp(machine, q),
+        Operation::Fjp(q) => fjp(machine, q, next),
+        Operation::In(t) => input(machine, t, next, host),
+        Operation::Out(t) => output(machine, t, next, host),
+        Operation::Mst(p) => mst(machine, p, next),
+        Operation::Cup(p, q) => cup(machine, table, p, q, next),
+        Operation::Ent(p, q) => ent(machine, table, n as usize, p, q, next),
+        Operation::Retf => retf(machine, table, n as usize),
+        Operation::Retp => retp(machine),
         Operation::Hlt => return Err(Ending::Halted),
-    }
-    Ok(())
+    };
+    Ok(done?)
 }

@@ -1,9 +1,8 @@
 // One step: the instruction at PC is fetched, decoded and carried out.
 ghost use Rattle.std.specs.Prelude.{◌≡◌, length};
-ghost use Rattle.std.specs.List.{slice_get};
 ghost use Rattle.rules.specs.Lookups.{contents_of};
 ghost use Rattle.machine.specs.Machine.{CarriesOutWith};
-ghost use Rattle.machine.specs.Steps.{decoded, step_by, step};
+ghost use Rattle.machine.specs.Steps.{step};
 
 use crate::fetch::{number, operation_at};
 use crate::perform::perform;
@@ -14,19 +13,8 @@ use sheet::stop::Stop;
 use sheet::table::Table;
 use store::store::Store;
 
-fn step_at<S: Store, H: Host>(
-    machine: &mut Machine<'_, S>,
-    table: Table<'_>,
-    n: u16,
-    host: &mut H,
-) -> Result<(), Ending>
-    ensures { CarriesOutWith S.cells result machine.old (H.means host.old) machine.new (H.means host.new) (step_by (contents_of table.entry) n (decoded (slice_get table.entry.code.now n))) }
-{
-    let operation = operation_at(table, n).ok_or(Stop::OutsideCode)?;
-    perform(machine, table, n, operation, host)
-}
-
 // What ends a run leaves everything as it was; the store keeps its length in any case.
+// Length and last place are said apart: of the equation alone each caller would have to go through the instructions.
 pub fn step<S: Store, H: Host>(
     machine: &mut Machine<'_, S>,
     table: Table<'_>,
@@ -37,5 +25,6 @@ pub fn step<S: Store, H: Host>(
     ensures last { machine.new.regs.last ≡ machine.old.regs.last }
 {
     let n = number(machine.regs.pc).ok_or(Stop::OutsideCode)?;
-    step_at(machine, table, n, host)
+    let operation = operation_at(table, n).ok_or(Stop::OutsideCode)?;
+    perform(machine, table, n, operation, host)
 }

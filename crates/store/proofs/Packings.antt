@@ -1,6 +1,8 @@
 -- Codes beside words, read and written at one place.
 use Rattle.std.proofs.Common.{◌≡◌, ℕ, zero, suc, ◌/◌, ◌%◌, ◌<◌, min, List, [], ◌∷◌, length, get_or, set, Some, refl, ap, ◌∙◌, arith}
 use Rattle.std.specs.List.{slice_get}
+use Rattle.std.proofs.lemmas.List.{set_past}
+use Rattle.std.proofs.lemmas.Option.{slice_get_past}
 use Rattle.store.specs.declared.cell.Cell.{Cell}
 use Rattle.store.specs.Cells.{all_cells, or_free}
 use Rattle.store.specs.Packing.{cell_at, packed_cells, shaped, kind_at}
@@ -36,3 +38,8 @@ all_packed (c ∷ cs) [] = refl
 all_packed (c ∷ cs) (w ∷ ws) =
     let p : Cell = or_free (shaped (c % 8) (kind_at (c / 8)) w) in
     ap (λ x. x ∷ all_cells (packed_cells cs ws)) (clean_clean p) ∙ ap (λ xs. cell_at c w ∷ xs) (all_packed cs ws)
+
+-- what a read finds and a write leaves
+pub ruleset finds = (nth_packed, slice_get_past, length_packed)
+
+pub ruleset writes = (set_packed, set_past, length_packed)

@@ -9,7 +9,7 @@ impl Cell {
         ensures { result ≡ clean self }
     {
         match self {
-            Cell::Working(x) | Cell::Data(x) => { if x.is_proper() { self } else { Cell::Free } }
+            Cell::Working(x) | Cell::Data(x) if !x.is_proper() => Cell::Free,
             _ => self,
         }
     }

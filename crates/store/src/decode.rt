@@ -3,6 +3,7 @@ ghost use Rattle.std.specs.Prelude.{◌≡◌};
 ghost use Rattle.store.specs.Packing.{kind_at, number_at, value_at, shaped, cell_at};
 
 use crate::cell::Cell;
+use crate::shape::{BLANK, DATA, FREE, MARK, SHAPES, WORKING, ZERO};
 use sheet::kind::Kind;
 use sheet::place::StorePlace;
 use sheet::value::Value;
@@ -21,11 +22,12 @@ fn kind_in(n: u8) -> Option<Kind>
     }
 }
 
+// By a shift, as the lowest number has the word 0; by a cast, since a number shifted so always has 32 bits.
 fn number_in(w: u64) -> Option<i32>
     ensures { result ≡ number_at w }
 {
     let n = u32::try_from(w).ok()?;
-    Some((i64::from(n) - 0x8000_0000) as i32)
+    Some((i64::from(n) - ZERO) as i32)
 }
 
 fn value_in(kind: Kind, w: u64) -> Option<Value>
@@ -48,11 +50,11 @@ fn shaped_in(shape: u8, kind: Option<Kind>, w: u64) -> Option<Cell>
     ensures { result ≡ shaped shape kind w }
 {
     match shape {
-        0 => Some(Cell::Free),
-        1 => Some(Cell::Mark(number_in(w)?)),
-        2 => Some(Cell::Working(value_in(kind?, w)?)),
-        3 => Some(Cell::Data(value_in(kind?, w)?)),
-        4 => Some(Cell::Blank(kind?)),
+        FREE => Some(Cell::Free),
+        MARK => Some(Cell::Mark(number_in(w)?)),
+        WORKING => Some(Cell::Working(value_in(kind?, w)?)),
+        DATA => Some(Cell::Data(value_in(kind?, w)?)),
+        BLANK => Some(Cell::Blank(kind?)),
         _ => None,
     }
 }
@@ -60,7 +62,7 @@ fn shaped_in(shape: u8, kind: Option<Kind>, w: u64) -> Option<Cell>
 pub(crate) fn decode(code: u8, w: u64) -> Cell
     ensures { result ≡ cell_at code w }
 {
-    shaped_in(code % 8, kind_in(code / 8), w)
+    shaped_in(code % SHAPES, kind_in(code / SHAPES), w)
         .unwrap_or(Cell::Free)
         .cleaned()
 }

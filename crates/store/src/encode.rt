@@ -5,6 +5,7 @@ ghost use Rattle.store.specs.Cells.{clean};
 ghost use Rattle.store.specs.Packing.{kind_at, number_at, value_at, cell_at};
 
 use crate::cell::Cell;
+use crate::shape::{BLANK, DATA, FREE, MARK, SHAPES, WORKING, ZERO};
 use sheet::kind::Kind;
 use sheet::value::Value;
 
@@ -28,10 +29,11 @@ fn kind_code(kind: Kind) -> u8
     }
 }
 
+// The shift and the cast of `number_in`, back.
 fn number_word(z: i32) -> u64
     ensures { number_at result ≡ Some z }
 {
-    (i64::from(z) + 0x8000_0000) as u64
+    (i64::from(z) + ZERO) as u64
 }
 
 fn value_word(x: Value) -> u64
@@ -50,21 +52,24 @@ pub(crate) fn encode(c: Cell) -> Pair
     ensures { cell_at result.code result.word ≡ clean c }
 {
     match c {
-        Cell::Free => Pair { code: 0, word: 0 },
+        Cell::Free => Pair {
+            code: FREE,
+            word: 0,
+        },
         Cell::Mark(z) => Pair {
-            code: 1,
+            code: MARK,
             word: number_word(z),
         },
         Cell::Working(x) => Pair {
-            code: 8 * kind_code(x.kind()) + 2,
+            code: SHAPES * kind_code(x.kind()) + WORKING,
             word: value_word(x),
         },
         Cell::Data(x) => Pair {
-            code: 8 * kind_code(x.kind()) + 3,
+            code: SHAPES * kind_code(x.kind()) + DATA,
             word: value_word(x),
         },
         Cell::Blank(kind) => Pair {
-            code: 8 * kind_code(kind) + 4,
+            code: SHAPES * kind_code(kind) + BLANK,
             word: 0,
         },
     }

@@ -7,5 +7,6 @@ mod decode;
 mod encode;
 pub mod packed;
 pub mod records;
+mod shape;
 pub mod slot;
 pub mod store;

@@ -1,5 +1,5 @@
 ghost use Rattle.std.specs.Prelude.{◌≡◌};
-ghost use Rattle.store.specs.Cells.{found, put_answer, put};
+ghost use Rattle.store.specs.Cells.{put_answer, put};
 ghost use Rattle.store.specs.Meanings.{cells_of_packed};
 ghost use Rattle.store.specs.Packing.{packed_cells};
 
@@ -9,7 +9,8 @@ use crate::encode::encode;
 use crate::slot::{PastTheEnd, Slot};
 use crate::store::Store;
 
-// A store over lent one-byte codes beside lent words. A pair that is no cell reads as free; the shorter list gives the length.
+// A store over lent one-byte codes beside lent words: two lists take nine bytes a cell, where one of pairs would take sixteen.
+// A pair that is no cell reads as free; the shorter list gives the length.
 #[derive(Drop)]
 pub struct Packed<'a> {
     codes: &'a mut [u8],
@@ -25,17 +26,6 @@ impl<'a> Packed<'a> {
     }
 }
 
-// By index: from what two calls of `get` answer the check found no proof that both lists hold the cell.
-fn fetch(codes: &[u8], words: &[u64], i: usize) -> Result<Cell, PastTheEnd>
-    ensures { result ≡ found (packed_cells codes.now words.now) i }
-{
-    if i < codes.len() && i < words.len() {
-        Ok(decode(codes[i], words[i]))
-    } else {
-        Err(PastTheEnd)
-    }
-}
-
 impl Store for Packed<'_> {
     ghost cells = { cells_of_packed };
 
@@ -44,25 +34,30 @@ impl Store for Packed<'_> {
         self.codes.len().min(self.words.len())
     }
 
+    #[tactic(auto, using(crate::proofs::Packings::finds))]
     fn read(&self, x: Slot) -> Result<Cell, PastTheEnd> {
-        fetch(self.codes, self.words, x.0 as usize)
+        let i = x.0 as usize;
+        let (Some(code), Some(word)) = (self.codes.get(i), self.words.get(i)) else {
+            return Err(PastTheEnd);
+        };
+        Ok(decode(*code, *word))
     }
 
-    // Whoever lent the lists knows what they then hold.
+    // `name` stands here, since the trait knows no lists: those that were lent hold what was written.
+    #[tactic(auto, using(crate::proofs::Packings::writes))]
     fn write(&mut self, x: Slot, c: Cell) -> Result<(), PastTheEnd>
         ensures name { (self.new.codes.ghost_name ≡ self.old.codes.ghost_name) × (self.new.words.ghost_name ≡ self.old.words.ghost_name) }
         ensures value { result ≡ put_answer (cells_of_packed self.old) x.0 }
         ensures after { cells_of_packed self.new ≡ put (cells_of_packed self.old) x.0 c }
     {
-        // By index, as in `fetch`.
+        // By index, since `get_mut` does not tell what a list ends as.
         let i = x.0 as usize;
-        if i < self.codes.len() && i < self.words.len() {
-            let pair = encode(c);
-            self.codes[i] = pair.code;
-            self.words[i] = pair.word;
-            Ok(())
-        } else {
-            Err(PastTheEnd)
+        if i >= self.len() {
+            return Err(PastTheEnd);
         }
+        let pair = encode(c);
+        self.codes[i] = pair.code;
+        self.words[i] = pair.word;
+        Ok(())
     }
 }

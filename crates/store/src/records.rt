@@ -1,5 +1,6 @@
 ghost use Rattle.std.specs.Prelude.{◌≡◌};
 ghost use Rattle.store.specs.Cells.{all_cells, put_answer, put};
+ghost use Rattle.store.specs.Laws.{AWriteReplacesOneCell};
 ghost use Rattle.store.specs.Meanings.{cells_of_records};
 
 use crate::cell::Cell;
@@ -13,9 +14,12 @@ pub struct Records<'a> {
 }
 
 impl<'a> Records<'a> {
+    // `law`: what is written is read back, and nothing else changes.
+    #[tactic(auto, using(crate::proofs::Lists::a_write_replaces_one_cell))]
     pub fn over(records: &'a mut [Cell]) -> Records<'a>
         ensures name { result.records.ghost_name ≡ records.entry.ghost_name }
         ensures held { cells_of_records result ≡ all_cells records.old }
+        ensures law { AWriteReplacesOneCell }
     {
         Records { records }
     }
@@ -36,14 +40,14 @@ impl Store for Records<'_> {
             .ok_or(PastTheEnd)
     }
 
-    // Whoever lent the list knows what it then holds.
+    // `name` stands here, since the trait knows no list: the one that was lent holds what was written.
     #[tactic(auto, using(crate::proofs::Lists::writes))]
     fn write(&mut self, x: Slot, c: Cell) -> Result<(), PastTheEnd>
         ensures name { self.new.records.ghost_name ≡ self.old.records.ghost_name }
         ensures value { result ≡ put_answer (cells_of_records self.old) x.0 }
         ensures after { cells_of_records self.new ≡ put (cells_of_records self.old) x.0 c }
     {
-        // By index: what `get_mut` lends did not close the proof that the list then holds c there.
+        // By index, since `get_mut` does not tell what the list ends as.
         let i = x.0 as usize;
         if i >= self.records.len() {
             return Err(PastTheEnd);

@@ -1,7 +1,7 @@
 ghost use Rattle.std.specs.Prelude.{◌≡◌};
 ghost use Rattle.store.specs.Refusals.{refusal_number};
 
-// A place in a store, counted from its first cell. An address is any number of its kind; a slot is one that may be there.
+// A place in a store, counted from its first cell. An address may be negative; a slot is not, but may lie past the end.
 #[derive(Clone, Copy, PartialEq, Eq, Debug, Drop)]
 pub struct Slot(pub u32);
 

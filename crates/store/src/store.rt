@@ -1,6 +1,5 @@
 ghost use Rattle.std.specs.Prelude.{◌≡◌, List, length};
 ghost use Rattle.store.specs.Cells.{all_cells, found, put_answer, put};
-ghost use Rattle.store.specs.Laws.{AWriteReplacesOneCell};
 ghost use Rattle.store.specs.declared.cell.Cell.{Cell};
 
 use crate::cell::Cell;
@@ -22,8 +21,3 @@ pub trait Store {
         ensures value { result ≡ put_answer (cells self.old) x.0 }
         ensures after { cells self.new ≡ put (cells self.old) x.0 c };
 }
-
-// What is written is read back, and nothing else changes.
-fn writes_stand()
-    ensures { AWriteReplacesOneCell }
-{}

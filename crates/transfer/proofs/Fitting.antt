@@ -35,6 +35,10 @@ every_reverse p (x ∷ xs) h =
 pub row_proper : (r : Row) → is_row r ≡ true → every proper (stack_of r) ≡ true
 row_proper r v = every_reverse proper (entries r) (valid_proper r v)
 
+pub values_proper : (ts : List Kind) → every proper (map Value ts) ≡ true
+values_proper [] = refl
+values_proper (t ∷ ts) = values_proper ts
+
 -- every entry has a cell
 pub entries_in_cells : (s : Stack) → length s ≤ cells_on s
 entries_in_cells [] = omega arith

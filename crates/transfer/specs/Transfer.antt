@@ -22,7 +22,7 @@ use Rattle.rows.specs.declared.row.Row.{Row}
 use Rattle.rows.specs.Rows.{entries, is_row}
 use Rattle.transfer.specs.declared.breach.Breach.{Breach}
 use Rattle.transfer.specs.declared.breach.Breach.TheVariants.{WrongStack, StackTooHigh, PastTheEnd}
-use Rattle.transfer.specs.declared.transfer.Sent.{Sent}
+use Rattle.transfer.specs.declared.sent.Sent.{Sent}
 use Rattle.transfer.specs.Stacks.{Stack, cells_on, less, more}
 
 abbrev pub handed : Way → ℕ → Stack → List (ℕ × Stack)

@@ -3,5 +3,6 @@
 
 pub mod breach;
 pub mod entrance;
+mod sent;
 mod stack;
 pub mod transfer;

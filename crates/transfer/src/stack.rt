@@ -1,11 +1,10 @@
 // A stack under judgement: a row is loaded, entries are taken off and given.
-ghost use Rattle.std.specs.Prelude.{◌≡◌, ◌+◌, ◌≤◌, true, [], ◌∷◌, ◌++◌, reverse, length, take as first, drop, ◌<◌, ◌^◌, sum_by};
-ghost use Rattle.sheet.specs.Kinds.{same};
-ghost use Rattle.rules.specs.Lookups.{contents_of, ancestor as ancestor_of};
+ghost use Rattle.std.specs.Prelude.{◌≡◌, ◌+◌, ◌≤◌, true, [], ◌∷◌, ◌++◌, reverse, ◌<◌, ◌^◌, sum_by};
+ghost use Rattle.rules.specs.Lookups.{contents_of};
 ghost use Rattle.pile.specs.Piles.{held, depth, room};
 ghost use Rattle.rows.specs.Entries.{cells_of_entry};
 ghost use Rattle.rows.specs.Rows.{is_row};
-ghost use Rattle.transfer.specs.Stacks.{cells_on, listed, less_kinds, less_mark, leads_to, parameters_down, less, more, Took, Gave};
+ghost use Rattle.transfer.specs.Stacks.{cells_on, listed, less_kinds, less_mark, less, more, Took, Gave};
 ghost use Rattle.transfer.specs.Transfer.{stack_of};
 
 use crate::breach::Breach;
@@ -13,9 +12,8 @@ use pile::Pile;
 use rows::entry::Entry;
 use rows::row::Row;
 use rules::effects::{Gives, Takes};
-use rules::lookup::ancestor;
+use rules::lookup::{ancestor, cells_at};
 use sheet::kind::Kind;
-use sheet::procedure::Procedure;
 use sheet::table::Table;
 
 // Kept on a pile of forty places, as many as a row may have entries.
@@ -23,14 +21,6 @@ use sheet::table::Table;
 pub(crate) struct Entries<'a> {
     pub(crate) pile: Pile<'a, Entry>,
     ghost forty: { room pile ≡ 40 },
-}
-
-// The parameters of a procedure, as far as the table has cells.
-pub(crate) fn parameters<'a>(table: Table<'a>, procedure: Procedure) -> &'a [Kind]
-    ensures { result.now ≡ first procedure.parameters (drop procedure.offset table.entry.cells.now) }
-{
-    let rest = table.cells.get(procedure.offset..).unwrap_or(&[]);
-    rest.get(..procedure.parameters as usize).unwrap_or(rest)
 }
 
 // The cells of the store that the entries stand for.
@@ -52,6 +42,8 @@ impl<'a> Entries<'a> {
     }
 
     // Puts a row's entries on an empty stack; a record may be no row, so the call asks that it is one.
+    // What is a row has no type of its own: rows are lent as records, and such a type would stand beside `Row`.
+    // The loop of `put_all` is the same; one for both would take a closure, with clauses for its calls and their results.
     pub(crate) fn load(&mut self, row: Row)
         requires row { is_row row ≡ true }
         requires empty { held self.old.pile ≡ [] }
@@ -73,6 +65,7 @@ impl<'a> Entries<'a> {
         }
     }
 
+    // By two tests and no loop over both, which would need an invariant.
     fn take_kinds(&mut self, top: Option<Kind>, below: Option<Kind>) -> Result<(), Breach>
         ensures { Took result (less_kinds (listed top ++ listed below) (held self.old.pile)) (held self.new.pile) }
     {
@@ -116,10 +109,12 @@ impl<'a> Entries<'a> {
     {
         match takes {
             Takes::Kinds(top, below) => self.take_kinds(top, below),
-            Takes::Parameters(procedure) => self.take_all(parameters(table, procedure)),
+            Takes::Parameters(procedure) => {
+                self.take_all(cells_at(table, procedure.offset, procedure.parameters))
+            }
             Takes::Call(procedure) => {
-                self.take_all(parameters(table, procedure))?;
-                self.take_mark(table, owner, procedure.parent as usize)
+                self.take_all(cells_at(table, procedure.offset, procedure.parameters))?;
+                self.take_mark(table, owner, usize::from(procedure.parent))
             }
         }
     }

@@ -1,5 +1,5 @@
 // The transfer function of the verifier.
-ghost use Rattle.std.specs.Prelude.{◌≡◌, ℕ, [], ◌<◌, ◌≤◌, true, false, length, Ok, Err, nat_le};
+ghost use Rattle.std.specs.Prelude.{◌≡◌, ℕ, [], ◌≤◌, true, false, Ok, Err, nat_le};
 ghost use Rattle.rules.specs.Lookups.{contents_of, owner as owner_of, room_at};
 ghost use Rattle.pile.specs.Piles.{held};
 ghost use Rattle.rows.specs.Entries.{proper};
@@ -10,19 +10,13 @@ ghost use Rattle.transfer.specs.Stacks.{cells_on, less, more, fitting};
 ghost use Rattle.transfer.specs.Transfer.{handed, stack_of, has_next, stays, passed_on, transfer, outcome, SendsARow, Checked};
 
 use crate::breach::Breach;
+pub use crate::sent::Sent;
 use crate::stack::Entries;
 use rows::entry::Entry;
 use rows::row::Row;
 use rules::effects::{Effect, Gives, Way, effect_of};
 use rules::lookup::{owner, room_at};
 use sheet::table::Table;
-
-// The stack that an instruction leaves, and where it goes on with it.
-#[derive(Clone, Copy, Drop)]
-pub struct Sent {
-    pub row: Row,
-    pub way: Way,
-}
 
 // The cells of what is given.
 fn cells_given(gives: Gives) -> usize
@@ -37,6 +31,7 @@ fn cells_given(gives: Gives) -> usize
 }
 
 // Whether a stack with what is given on top of it has no more cells than the procedure allows.
+// Table and number go one by one, here and below: a struct would be made in the one call that they come from.
 fn fits(table: Table<'_>, n: usize, gives: Gives, stack: &Entries<'_>) -> bool
     ensures { result ≡ nat_le (cells_on (more gives (held stack.now.pile))) (room_at (contents_of table.entry) n) }
 {
@@ -45,14 +40,13 @@ fn fits(table: Table<'_>, n: usize, gives: Gives, stack: &Entries<'_>) -> bool
 
 // The next instruction lies in the same procedure.
 fn has_next(table: Table<'_>, n: usize) -> bool
-    requires { n < length table.code.now }
     ensures { result ≡ has_next (contents_of table.entry) n }
 {
-    n + 1 < table.code.len() && owner(table, n + 1) == owner(table, n)
+    let next = n.saturating_add(1);
+    next < table.code.len() && owner(table, next) == owner(table, n)
 }
 
 fn stays(table: Table<'_>, n: usize, way: Way) -> bool
-    requires { n < length table.code.now }
     ensures { result ≡ stays (contents_of table.entry) n way }
 {
     match way {
@@ -77,7 +71,6 @@ fn leave(effect: Effect, stack: &mut Entries<'_>) -> Result<Sent, Breach>
 // The rules are tested in the order of Breach.
 fn hand_on(table: Table<'_>, n: usize, effect: Effect, row: Row) -> Result<Sent, Breach>
     requires row { is_row row ≡ true }
-    requires inside { n < length table.code.now }
     ensures value { room_at (contents_of table.entry) n ≤ 40 → fitting effect.gives ≡ true → outcome n result ≡ passed_on (contents_of table.entry) n effect.gives effect.way (less (contents_of table.entry) (owner_of (contents_of table.entry) n) effect.takes (stack_of row)) }
     ensures row { SendsARow result }
 {

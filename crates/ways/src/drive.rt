@@ -24,6 +24,7 @@ pub(crate) fn drive<'a, S: Store, H: Host>(
     host: &mut H,
     cut: u32,
 ) -> anyhow::Result<Ended> {
+    // not `context`: what is refused holds the passed table, so it is no Error
     let mut run = begin(passed, store).map_err(|_| anyhow!("the store is too short or too long"))?;
     let mut count = 0u64;
     let mut finish = Finish::Spent;

@@ -7,7 +7,7 @@ mod yard;
 
 use crate::drive::{Ended, drive};
 use crate::yard::Yard;
-use anyhow::anyhow;
+use anyhow::Context;
 use columns::value_line::write_value;
 use columns::value_text::read_values;
 use host::host::Host;
@@ -49,63 +49,57 @@ enum Backing {
     Packed,
 }
 
-// Runs the yard's table over a store of this kind, in slices of `cut` steps.
-fn drive_over<H: Host>(
-    rt: &HostRuntime,
+// A way to run a yard: over a store of this kind, in slices of `cut` steps.
+#[derive(Clone, Copy, Drop)]
+struct Way<'a> {
+    rt: &'a HostRuntime,
+    yard: &'a Yard,
     backing: Backing,
-    yard: &Yard,
-    host: &mut H,
     cut: u32,
-) -> anyhow::Result<Ended> {
-    let passed = yard.passed()?;
-    match backing {
-        Backing::Records => {
-            let mut records = vec![in rt.alloc(); Cell::Free; CELLS]?;
-            let mut store = Records::over(&mut records);
-            drive(passed, &mut store, host, cut)
-        }
-        Backing::Packed => {
-            let mut codes = vec![in rt.alloc(); 0u8; CELLS]?;
-            let mut words = vec![in rt.alloc(); 0u64; CELLS]?;
-            let mut store = Packed::over(&mut codes, &mut words);
-            drive(passed, &mut store, host, cut)
-        }
-    }
 }
 
-// Values waiting in a list, values written into another.
-fn with_lists(
-    rt: &HostRuntime,
-    backing: Backing,
-    yard: &Yard,
-    typed: &[u8],
-    cut: u32,
-) -> anyhow::Result<()> {
-    let mut input = vec![in rt.alloc(); Value::Integer(0); VALUES]?;
-    let n = read_values(typed, &mut input).map_err(|_| anyhow!("the values are refused"))?;
-    input.truncate(n);
-    let mut output = vec![in rt.alloc(); Value::Integer(0); VALUES]?;
-    let mut host = Lists::over(&input, &mut output);
-    let ended = drive_over(rt, backing, yard, &mut host, cut)?;
-    for value in host.so_far() {
-        rt.stdout().write_all(&write_value(*value))?;
+impl Way<'_> {
+    fn drive<H: Host>(&self, host: &mut H) -> anyhow::Result<Ended> {
+        let heap = self.rt.alloc();
+        let passed = self.yard.passed()?;
+        match self.backing {
+            Backing::Records => {
+                let mut records = vec![in heap; Cell::Free; CELLS]?;
+                let mut store = Records::over(&mut records);
+                drive(passed, &mut store, host, self.cut)
+            }
+            Backing::Packed => {
+                let mut codes = vec![in heap; 0u8; CELLS]?;
+                let mut words = vec![in heap; 0u64; CELLS]?;
+                let mut store = Packed::over(&mut codes, &mut words);
+                drive(passed, &mut store, host, self.cut)
+            }
+        }
     }
-    show(rt, ended)
-}
 
-// Lines of values typed, lines of values written.
-fn with_lines(
-    rt: &HostRuntime,
-    backing: Backing,
-    yard: &Yard,
-    typed: &[u8],
-    cut: u32,
-) -> anyhow::Result<()> {
-    let mut output = vec![in rt.alloc(); 0u8; BYTES]?;
-    let mut host = Lines::over(typed, &mut output).map_err(|_| anyhow!("the values are refused"))?;
-    let ended = drive_over(rt, backing, yard, &mut host, cut)?;
-    rt.stdout().write_all(host.text())?;
-    show(rt, ended)
+    // Values waiting in a list, values written into another.
+    fn with_lists(&self, typed: &[u8]) -> anyhow::Result<()> {
+        let heap = self.rt.alloc();
+        let mut input = vec![in heap; Value::Integer(0); VALUES]?;
+        let n = read_values(typed, &mut input).context("the values are refused")?;
+        input.truncate(n);
+        let mut output = vec![in heap; Value::Integer(0); VALUES]?;
+        let mut host = Lists::over(&input, &mut output);
+        let ended = self.drive(&mut host)?;
+        for value in host.so_far() {
+            self.rt.stdout().write_all(&write_value(*value))?;
+        }
+        show(self.rt, ended)
+    }
+
+    // Lines of values typed, lines of values written.
+    fn with_lines(&self, typed: &[u8]) -> anyhow::Result<()> {
+        let mut output = vec![in self.rt.alloc(); 0u8; BYTES]?;
+        let mut host = Lines::over(typed, &mut output).context("the values are refused")?;
+        let ended = self.drive(&mut host)?;
+        self.rt.stdout().write_all(host.text())?;
+        show(self.rt, ended)
+    }
 }
 
 fn four_ways(rt: &HostRuntime, name: &str) -> anyhow::Result<()> {
@@ -113,10 +107,16 @@ fn four_ways(rt: &HostRuntime, name: &str) -> anyhow::Result<()> {
     let typed = fs::read(rt, format!(in rt.alloc(); "{name}.values")?)?;
     let yard = Yard::read(rt.alloc(), &text)?;
     println!(rt; "{name}")?;
-    with_lists(rt, Backing::Records, &yard, &typed, 100)?;
-    with_lists(rt, Backing::Packed, &yard, &typed, 1)?;
-    with_lines(rt, Backing::Records, &yard, &typed, 7)?;
-    with_lines(rt, Backing::Packed, &yard, &typed, 3)
+    let way = |backing, cut| Way {
+        rt,
+        yard: &yard,
+        backing,
+        cut,
+    };
+    way(Backing::Records, 100).with_lists(&typed)?;
+    way(Backing::Packed, 1).with_lists(&typed)?;
+    way(Backing::Records, 7).with_lines(&typed)?;
+    way(Backing::Packed, 3).with_lines(&typed)
 }
 
 fn run(rt: &HostRuntime) -> anyhow::Result<()> {

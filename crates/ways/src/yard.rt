@@ -1,12 +1,12 @@
 // A yard's table, read and judged.
 use admit::{Passed, admit};
-use anyhow::anyhow;
+use anyhow::Context;
+use columns::table_text::Extent;
 use prepare::prepare::prepare;
 use rows::row::Row;
 use sheet::instruction::Instruction;
 use sheet::kind::Kind;
 use sheet::procedure::Procedure;
-use sheet::table::Table;
 use std::alloc::Global;
 
 // Long enough for the yards here.
@@ -14,6 +14,7 @@ const PLACES: usize = 100;
 
 #[derive(Drop)]
 pub(crate) struct Yard {
+    extent: Extent,
     procedures: Vec<Procedure>,
     cells: Vec<Kind>,
     code: Vec<Instruction>,
@@ -35,11 +36,9 @@ impl Yard {
             &mut rows,
             &mut places,
         )
-        .map_err(|_| anyhow!("the table is refused"))?;
-        procedures.truncate(prepared.extent.procedures);
-        cells.truncate(prepared.extent.cells);
-        code.truncate(prepared.extent.code);
+        .context("the table is refused")?;
         Ok(Yard {
+            extent: prepared.extent,
             procedures,
             cells,
             code,
@@ -49,11 +48,9 @@ impl Yard {
 
     // Its table, with the rows that judging left.
     pub(crate) fn passed(&self) -> anyhow::Result<Passed<'_>> {
-        let table = Table {
-            procedures: &self.procedures,
-            cells: &self.cells,
-            code: &self.code,
-        };
-        admit(table, &self.rows).map_err(|_| anyhow!("the rows are refused"))
+        let table = self
+            .extent
+            .table_in(&self.procedures, &self.cells, &self.code);
+        admit(table, &self.rows).context("the rows are refused")
     }
 }

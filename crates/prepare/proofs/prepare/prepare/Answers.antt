@@ -1,16 +1,11 @@
-use Rattle.std.proofs.Common.{length, Ok, Err, ap, ◌∙◌, arith}
+use Rattle.std.proofs.Common.{length, Ok, Err, ap, ◌∙◌}
 use Rattle.std.proofs.lemmas.Result.{err_from_is_err_and}
 use Rattle.columns.specs.TableText.{read_table, room_of}
 use Rattle.rules.specs.Lookups.{contents_of}
 use Rattle.judge.specs.Handing.{meanings}
 use Rattle.prepare.specs.Preparing.{ready}
-use Rattle.prepare.proofs.Reading.{fits, reads, ready_is, rows_are, places_are, records_are}
+use Rattle.prepare.proofs.Reading.{fronts_are, reads, ready_is, rows_are, places_are, records_are}
 use Rattle.prepare.proofs.prepare.prepare.Goals as goal
-
-pub table_in-table-requires : goal.table_in-table-requires
-table_in-table-requires c =
-    let f = fits c.args.text.now c.args.procedures.now c.args.cells.now c.args.code.now c.in_ok-extent.extent c.in_ok-extent.ensures.value in
-    record { procedures = omega (arith, f.0); cells = omega (arith, f.1); code = omega (arith, f.2) }
 
 pub returns-in_err-reached : goal.returns-in_err-reached
 returns-in_err-reached c =
@@ -20,7 +15,8 @@ returns-in_err-reached c =
     let q = c.in_ok-extent.ensures in
     let t = reads c.args.text.now c.args.procedures.now c.read_table.new.procedures c.args.cells.now c.read_table.new.cells c.args.code.now c.read_table.new.code e
     q.value q.procedures q.cells q.code in
-    let same = c.table_in-table.ensures ∙ t.holds in
+    let f = c.table_in-table.ensures in
+    let same = fronts_are U e c.read_table.new.procedures c.read_table.new.cells c.read_table.new.code f.procedures f.cells f.code ∙ t.holds in
     let j = c.in_err-reached.ensures in
     let r = err_from_is_err_and c.from_residual-in_err-reached.result c.from_residual-in_err-reached.ensures.1 in
     record {
@@ -41,7 +37,8 @@ returns c =
     let q = c.in_ok-extent.ensures in
     let t = reads c.args.text.now c.args.procedures.now c.read_table.new.procedures c.args.cells.now c.read_table.new.cells c.args.code.now c.read_table.new.code e
     q.value q.procedures q.cells q.code in
-    let same = c.table_in-table.ensures ∙ t.holds in
+    let f = c.table_in-table.ensures in
+    let same = fronts_are U e c.read_table.new.procedures c.read_table.new.cells c.read_table.new.code f.procedures f.cells f.code ∙ t.holds in
     let j = c.in_ok-reached.ensures in
     record {
       value = ready_is R t.table U e t.answer t.extent same (length c.args.rows.now) (length c.args.places.now) (Ok (record { extent = e; reached = c.in_ok-reached.reached })) (ap (ready e) j.value);

@@ -6,7 +6,7 @@ use Rattle.run.proofs.clear.fill.Goals as goal
 pub loop-i-preserved : goal.loop-i-preserved
 loop-i-preserved g c =
     let lt : c.loop-i.i < length (g.S.Store.cells c.args.store.now) = omega arith in
-    c.write.ensures.after ∙ rw c.loop-i.invariant (fill_more _ _ _ lt)
+    c.put_at.ensures ∙ rw c.loop-i.invariant (fill_more _ _ _ lt)
 
 pub returns : goal.returns
 returns g c =

@@ -1,94 +1,49 @@
-use Rattle.std.proofs.Common.{refl}
+use Rattle.std.proofs.Common.{◌≡◌, Result, Ok, refl}
 use Rattle.std.proofs.lemmas.Result.{err_from_is_err_and}
 use Rattle.rules.specs.Lookups.{contents_of}
+use Rattle.machine.specs.declared.ending.Ending.{Ending}
+use Rattle.machine.specs.Endings.{stopping}
+use Rattle.machine.specs.Frames.{return_plain}
 use Rattle.machine.specs.Leaves.{load, store}
-use Rattle.machine.specs.Steps.{two, one, lod, str, ind, sto, ujp, inp, cup, retf}
+use Rattle.machine.specs.Machine.{CarriesOutWith}
+use Rattle.machine.specs.Steps.{two, one, ldc, dpl, lod, str, lda, ind, sto, ujp, fjp, inp, out, mst, cup, ent, retf, perform}
 use Rattle.steps.proofs.Outcomes.{carried_out, carried_out_with, stopped, went_on}
+use Rattle.steps.proofs.perform.perform.Given as given
 use Rattle.steps.proofs.perform.perform.Goals as goal
+use Rattle.steps.proofs.perform.perform.Goals.{After-branch-done, in-Two, in-One, in-Ldc, in-Dpl, in-Ldo, in-Sro, in-Lod, in-Str, in-Lda, in-Ind, in-Sto, in-Ujp, in-Fjp, in-In, in-Out, in-Mst, in-Cup, in-Ent, in-Retf, in-Retp}
 
-pub returns-in_err-two-in-Two : goal.returns-in_err-two-in-Two
-returns-in_err-two-in-Two g c =
+-- whichever operation it is, and whatever it answers
+each : (g : given.Over) (c : After-branch-done g) (r : Result (Unit {0}) Ending) → r ≡ stopping c.match-operation.done
+    → CarriesOutWith g.S.Store.cells r c.args.machine.now (g.H.Host.means c.args.host.now) c.match-operation.machine (g.H.Host.means c.match-operation.host) (perform (contents_of c.args.table) c.args.n c.args.operation)
+each g c r e =
     let T = contents_of c.args.table in
+    elim c.match-operation.branch [
+      | in-Two w ↦ carried_out g.S.Store.cells T c.args.n g.H.Host.means w.in-Two.is c.next_place-next.ensures (two w.in-Two.op) (λ _. refl) e w.done-is w.machine-is w.host-is w.two-done.ensures
+      | in-One w ↦ carried_out g.S.Store.cells T c.args.n g.H.Host.means w.in-One.is c.next_place-next.ensures (one w.in-One.op) (λ _. refl) e w.done-is w.machine-is w.host-is w.one-done.ensures
+      | in-Ldc w ↦ carried_out g.S.Store.cells T c.args.n g.H.Host.means w.in-Ldc.is c.next_place-next.ensures (ldc w.in-Ldc.x) (λ _. refl) e w.done-is w.machine-is w.host-is w.ldc-done.ensures
+      | in-Dpl w ↦ carried_out g.S.Store.cells T c.args.n g.H.Host.means w.in-Dpl.is c.next_place-next.ensures (dpl w.in-Dpl.t) (λ _. refl) e w.done-is w.machine-is w.host-is w.dpl-done.ensures
+      | in-Ldo w ↦ carried_out g.S.Store.cells T c.args.n g.H.Host.means w.in-Ldo.is c.next_place-next.ensures (λ p. load p w.in-Ldo.t w.in-Ldo.q) (λ _. refl) e w.done-is w.machine-is w.host-is w.ldo-done.ensures
+      | in-Sro w ↦ carried_out g.S.Store.cells T c.args.n g.H.Host.means w.in-Sro.is c.next_place-next.ensures (λ p. store p w.in-Sro.t w.in-Sro.q) (λ _. refl) e w.done-is w.machine-is w.host-is w.sro-done.ensures
+      | in-Lod w ↦ carried_out g.S.Store.cells T c.args.n g.H.Host.means w.in-Lod.is c.next_place-next.ensures (lod w.in-Lod.t w.in-Lod.p w.in-Lod.q) (λ _. refl) e w.done-is w.machine-is w.host-is w.lod-done.ensures
+      | in-Str w ↦ carried_out g.S.Store.cells T c.args.n g.H.Host.means w.in-Str.is c.next_place-next.ensures (str w.in-Str.t w.in-Str.p w.in-Str.q) (λ _. refl) e w.done-is w.machine-is w.host-is w.str-done.ensures
+      | in-Lda w ↦ carried_out g.S.Store.cells T c.args.n g.H.Host.means w.in-Lda.is c.next_place-next.ensures (lda w.in-Lda.p w.in-Lda.q) (λ _. refl) e w.done-is w.machine-is w.host-is w.lda-done.ensures
+      | in-Ind w ↦ carried_out g.S.Store.cells T c.args.n g.H.Host.means w.in-Ind.is c.next_place-next.ensures (ind w.in-Ind.t) (λ _. refl) e w.done-is w.machine-is w.host-is w.ind-done.ensures
+      | in-Sto w ↦ carried_out g.S.Store.cells T c.args.n g.H.Host.means w.in-Sto.is c.next_place-next.ensures (sto w.in-Sto.t) (λ _. refl) e w.done-is w.machine-is w.host-is w.sto-done.ensures
+      | in-Ujp w ↦ carried_out g.S.Store.cells T c.args.n g.H.Host.means w.in-Ujp.is c.next_place-next.ensures (λ _. ujp w.in-Ujp.q) (λ _. refl) e w.done-is w.machine-is w.host-is w.ujp-done.ensures
+      | in-Fjp w ↦ carried_out g.S.Store.cells T c.args.n g.H.Host.means w.in-Fjp.is c.next_place-next.ensures (fjp w.in-Fjp.q) (λ _. refl) e w.done-is w.machine-is w.host-is w.fjp-done.ensures
+      | in-In w ↦ carried_out_with g.S.Store.cells T c.args.n g.H.Host.means w.in-In.is c.next_place-next.ensures (inp w.in-In.t) (λ _. refl) e w.done-is w.machine-is w.host-is w.input-done.ensures
+      | in-Out w ↦ carried_out_with g.S.Store.cells T c.args.n g.H.Host.means w.in-Out.is c.next_place-next.ensures (out w.in-Out.t) (λ _. refl) e w.done-is w.machine-is w.host-is w.output-done.ensures
+      | in-Mst w ↦ carried_out g.S.Store.cells T c.args.n g.H.Host.means w.in-Mst.is c.next_place-next.ensures (mst w.in-Mst.p) (λ _. refl) e w.done-is w.machine-is w.host-is w.mst-done.ensures
+      | in-Cup w ↦ carried_out g.S.Store.cells T c.args.n g.H.Host.means w.in-Cup.is c.next_place-next.ensures (cup T w.in-Cup.p w.in-Cup.q) (λ _. refl) e w.done-is w.machine-is w.host-is w.cup-done.ensures
+      | in-Ent w ↦ carried_out g.S.Store.cells T c.args.n g.H.Host.means w.in-Ent.is c.next_place-next.ensures (ent T c.args.n w.in-Ent.p w.in-Ent.q) (λ _. refl) e w.done-is w.machine-is w.host-is w.ent-done.ensures
+      | in-Retf w ↦ carried_out g.S.Store.cells T c.args.n g.H.Host.means w.in-Retf.is c.next_place-next.ensures (λ _. retf T c.args.n) (λ _. refl) e w.done-is w.machine-is w.host-is w.retf-done.ensures
+      | in-Retp w ↦ carried_out g.S.Store.cells T c.args.n g.H.Host.means w.in-Retp.is c.next_place-next.ensures (λ _. return_plain) (λ _. refl) e w.done-is w.machine-is w.host-is w.retp-done.ensures
+    ]
+
+pub returns-in_err-done : goal.returns-in_err-done
+returns-in_err-done g c =
     let p = err_from_is_err_and c.from_residual.result c.from_residual.ensures.1 in
-    carried_out g.S.Store.cells T c.args.n (g.H.Host.means c.args.host.now) c.in-Two.is c.next_place-next.ensures (two c.in-Two.op) (λ _. refl) (stopped p.1 p.2 c.in_err-two-in-Two.was) c.two.ensures
+    each g c.before.before c.from_residual.result (stopped p.1 p.2 c.in_err-done.was)
 
-pub returns-in_err-one-in-One : goal.returns-in_err-one-in-One
-returns-in_err-one-in-One g c =
-    let T = contents_of c.args.table in
-    let p = err_from_is_err_and c.from_residual-in_err-one-in-One.result c.from_residual-in_err-one-in-One.ensures.1 in
-    carried_out g.S.Store.cells T c.args.n (g.H.Host.means c.args.host.now) c.in-One.is c.next_place-next.ensures (one c.in-One.op) (λ _. refl) (stopped p.1 p.2 c.in_err-one-in-One.was) c.one.ensures
-
-pub returns-in_err-ldo-in-Ldo : goal.returns-in_err-ldo-in-Ldo
-returns-in_err-ldo-in-Ldo g c =
-    let T = contents_of c.args.table in
-    let p = err_from_is_err_and c.from_residual-in_err-ldo-in-Ldo.result c.from_residual-in_err-ldo-in-Ldo.ensures.1 in
-    carried_out g.S.Store.cells T c.args.n (g.H.Host.means c.args.host.now) c.in-Ldo.is c.next_place-next.ensures (λ p. load p c.in-Ldo.t c.in-Ldo.q) (λ _. refl) (stopped p.1 p.2 c.in_err-ldo-in-Ldo.was) c.ldo.ensures
-
-pub returns-in_err-sro-in-Sro : goal.returns-in_err-sro-in-Sro
-returns-in_err-sro-in-Sro g c =
-    let T = contents_of c.args.table in
-    let p = err_from_is_err_and c.from_residual-in_err-sro-in-Sro.result c.from_residual-in_err-sro-in-Sro.ensures.1 in
-    carried_out g.S.Store.cells T c.args.n (g.H.Host.means c.args.host.now) c.in-Sro.is c.next_place-next.ensures (λ p. store p c.in-Sro.t c.in-Sro.q) (λ _. refl) (stopped p.1 p.2 c.in_err-sro-in-Sro.was) c.sro.ensures
-
-pub returns-in_err-lod-in-Lod : goal.returns-in_err-lod-in-Lod
-returns-in_err-lod-in-Lod g c =
-    let T = contents_of c.args.table in
-    let p = err_from_is_err_and c.from_residual-in_err-lod-in-Lod.result c.from_residual-in_err-lod-in-Lod.ensures.1 in
-    carried_out g.S.Store.cells T c.args.n (g.H.Host.means c.args.host.now) c.in-Lod.is c.next_place-next.ensures (lod c.in-Lod.t c.in-Lod.p c.in-Lod.q) (λ _. refl) (stopped p.1 p.2 c.in_err-lod-in-Lod.was) c.lod.ensures
-
-pub returns-in_err-str-in-Str : goal.returns-in_err-str-in-Str
-returns-in_err-str-in-Str g c =
-    let T = contents_of c.args.table in
-    let p = err_from_is_err_and c.from_residual-in_err-str-in-Str.result c.from_residual-in_err-str-in-Str.ensures.1 in
-    carried_out g.S.Store.cells T c.args.n (g.H.Host.means c.args.host.now) c.in-Str.is c.next_place-next.ensures (str c.in-Str.t c.in-Str.p c.in-Str.q) (λ _. refl) (stopped p.1 p.2 c.in_err-str-in-Str.was) c.str.ensures
-
-pub returns-in_err-ind-in-Ind : goal.returns-in_err-ind-in-Ind
-returns-in_err-ind-in-Ind g c =
-    let T = contents_of c.args.table in
-    let p = err_from_is_err_and c.from_residual-in_err-ind-in-Ind.result c.from_residual-in_err-ind-in-Ind.ensures.1 in
-    carried_out g.S.Store.cells T c.args.n (g.H.Host.means c.args.host.now) c.in-Ind.is c.next_place-next.ensures (ind c.in-Ind.t) (λ _. refl) (stopped p.1 p.2 c.in_err-ind-in-Ind.was) c.ind.ensures
-
-pub returns-in_err-sto-in-Sto : goal.returns-in_err-sto-in-Sto
-returns-in_err-sto-in-Sto g c =
-    let T = contents_of c.args.table in
-    let p = err_from_is_err_and c.from_residual-in_err-sto-in-Sto.result c.from_residual-in_err-sto-in-Sto.ensures.1 in
-    carried_out g.S.Store.cells T c.args.n (g.H.Host.means c.args.host.now) c.in-Sto.is c.next_place-next.ensures (sto c.in-Sto.t) (λ _. refl) (stopped p.1 p.2 c.in_err-sto-in-Sto.was) c.sto.ensures
-
-pub returns-in_err-ujp-in-Ujp : goal.returns-in_err-ujp-in-Ujp
-returns-in_err-ujp-in-Ujp g c =
-    let T = contents_of c.args.table in
-    let p = err_from_is_err_and c.from_residual-in_err-ujp-in-Ujp.result c.from_residual-in_err-ujp-in-Ujp.ensures.1 in
-    carried_out g.S.Store.cells T c.args.n (g.H.Host.means c.args.host.now) c.in-Ujp.is c.next_place-next.ensures (λ _. ujp c.in-Ujp.q) (λ _. refl) (stopped p.1 p.2 c.in_err-ujp-in-Ujp.was) c.ujp.ensures
-
-pub returns-in_err-input-in-In : goal.returns-in_err-input-in-In
-returns-in_err-input-in-In g c =
-    let T = contents_of c.args.table in
-    let p = err_from_is_err_and c.from_residual-in_err-input-in-In.result c.from_residual-in_err-input-in-In.ensures.1 in
-    carried_out_with g.S.Store.cells T c.args.n c.in-In.is c.next_place-next.ensures (inp c.in-In.t) (λ _. refl) (stopped p.1 p.2 c.in_err-input-in-In.was) c.input.ensures
-
-pub returns-in_err-cup-in-Cup : goal.returns-in_err-cup-in-Cup
-returns-in_err-cup-in-Cup g c =
-    let T = contents_of c.args.table in
-    let p = err_from_is_err_and c.from_residual-in_err-cup-in-Cup.result c.from_residual-in_err-cup-in-Cup.ensures.1 in
-    carried_out g.S.Store.cells T c.args.n (g.H.Host.means c.args.host.now) c.in-Cup.is c.next_place-next.ensures (cup T c.in-Cup.p c.in-Cup.q) (λ _. refl) (stopped p.1 p.2 c.in_err-cup-in-Cup.was) c.cup.ensures
-
-pub returns-in_err-retf-in-Retf : goal.returns-in_err-retf-in-Retf
-returns-in_err-retf-in-Retf g c =
-    let T = contents_of c.args.table in
-    let p = err_from_is_err_and c.from_residual-in_err-retf-in-Retf.result c.from_residual-in_err-retf-in-Retf.ensures.1 in
-    carried_out g.S.Store.cells T c.args.n (g.H.Host.means c.args.host.now) c.in-Retf.is c.next_place-next.ensures (λ _. retf T c.args.n) (λ _. refl) (stopped p.1 p.2 c.in_err-retf-in-Retf.was) c.retf.ensures
-
-pub returns-in_ok-two-in-Two : goal.returns-in_ok-two-in-Two
-returns-in_ok-two-in-Two g c =
-    let T = contents_of c.args.table in
-    carried_out g.S.Store.cells T c.args.n (g.H.Host.means c.args.host.now) c.in-Two.is c.next_place-next.ensures (two c.in-Two.op) (λ _. refl) (went_on c.in_ok-two-in-Two.was) c.two.ensures
-
-pub returns-in_ok-one-in-One : goal.returns-in_ok-one-in-One
-returns-in_ok-one-in-One g c =
-    let T = contents_of c.args.table in
-    carried_out g.S.Store.cells T c.args.n (g.H.Host.means c.args.host.now) c.in-One.is c.next_place-next.ensures (one c.in-One.op) (λ _. refl) (went_on c.in_ok-one-in-One.was) c.one.ensures
-
-pub returns-in_ok-ujp-in-Ujp : goal.returns-in_ok-ujp-in-Ujp
-returns-in_ok-ujp-in-Ujp g c =
-    let T = contents_of c.args.table in
-    carried_out g.S.Store.cells T c.args.n (g.H.Host.means c.args.host.now) c.in-Ujp.is c.next_place-next.ensures (λ _. ujp c.in-Ujp.q) (λ _. refl) (went_on c.in_ok-ujp-in-Ujp.was) c.ujp.ensures
+pub returns : goal.returns
+returns g c = each g c.before (Ok tt) (went_on c.in_ok-done.was)

@@ -25,6 +25,6 @@ returns-clause-value c cells fit pr n =
     let q = packed_is (bottom_first c.give.new.self.pile) c.in_ok-row.row (sym c.pack.ensures ∙ some_there c.pack.result _ _ (sym c.ok_or.ensures.value ∙ c.in_ok-row.was)) in
     ap (λ x. Ok (handed c.args.effect.way n x)) (q.1 ∙ c.in_ok-give.ensures)
 
-pub returns-clause-row : goal.returns-clause-row
-returns-clause-row c =
-    (packed_is (bottom_first c.give.new.self.pile) c.in_ok-row.row (sym c.pack.ensures ∙ some_there c.pack.result _ _ (sym c.ok_or.ensures.value ∙ c.in_ok-row.was))).0
+pub invariant_of-result : goal.invariant_of-result
+invariant_of-result c =
+    record { reached = (packed_is (bottom_first c.give.new.self.pile) c.in_ok-row.row (sym c.pack.ensures ∙ some_there c.pack.result _ _ (sym c.ok_or.ensures.value ∙ c.in_ok-row.was))).0 }

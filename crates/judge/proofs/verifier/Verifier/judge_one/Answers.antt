@@ -16,8 +16,8 @@ returns-in_err-sent-clause-after c =
     let r = err_from_is_err_and c.from_residual.result c.from_residual.ensures.1 in
     rw (r.1, r.2) (refuses (contents_of v.table) v.checked v.rows.now c.args.i c.requires c.transfer.result c.map_err.result m c.transfer.ensures.value (waiting v) c.in_err-sent.field-0.0 c.in_err-sent.was)
 
-pub hand_on-requires-clause-inside : goal.hand_on-requires-clause-inside
-hand_on-requires-clause-inside c =
+pub hand_on-requires : goal.hand_on-requires
+hand_on-requires c =
     let v = c.args.self.now in
     let m : Mapped c.args.i c.transfer.result c.map_err.result = search rules in
     sends_inside (contents_of v.table) v.checked v.rows.now c.args.i c.requires c.transfer.result c.map_err.result m c.transfer.ensures.value c.in_ok-sent.sent _ v.wide c.in_ok-sent.was
