@@ -1,20 +1,28 @@
 -- A list with a place for each line of a text is long enough for the records of its lines.
-use Rattle.std.proofs.Common.{◌≡◌, ℕ, ◌+◌, ◌≤◌, List, [], ◌∷◌, map, length, Some, None, Ok, Err, Option, Result, refl, ap, ◌∙◌, arith}
+use Rattle.std.proofs.Common.{◌≡◌, ℕ, ◌+◌, ◌≤◌, ◌&&◌, cond, leb, List, [], ◌∷◌, map, length, Some, None, Ok, Err, Option, sym, refl, ap, ◌∙◌, arith}
+use Rattle.std.specs.Option.{option_or}
+use Rattle.std.proofs.lemmas.Bool.{le-leb}
 use Rattle.std.proofs.lemmas.Bool.Decides.{nat_tests}
+use Rattle.std.proofs.lemmas.List.{length-map}
 use Rattle.numerals.specs.Lines.{lines}
 use Rattle.sheet.specs.declared.kind.Kind.{Kind}
 use Rattle.sheet.specs.declared.procedure.Procedure.{Procedure}
 use Rattle.sheet.specs.declared.instruction.Instruction.{Instruction}
-use Rattle.columns.specs.declared.fault.TextFault.{TextFault}
+use Rattle.sheet.specs.Tables.{Contents}
+use Rattle.columns.specs.declared.fault.TextFault.TheVariants.{Malformed, Misplaced, TooLong}
 use Rattle.columns.specs.declared.line.Line.TheVariants as line
 use Rattle.columns.specs.declared.table_text.Extent.{Extent}
 use Rattle.columns.specs.declared.table_text.Counts.{Counts}
+use Rattle.columns.specs.Faults.{refuse}
 use Rattle.columns.specs.Scans.{first_failing}
 use Rattle.columns.specs.TableLines.{read_line}
-use Rattle.columns.specs.TableText.{Form, Order, Room, Said, counted, passes, start, first_fault, read_by, read_table, answered, contents, lines_of, extent_of, room_of}
-use Rattle.columns.specs.Faults.{refuse}
-use Rattle.columns.specs.declared.fault.TextFault.TheVariants.{Malformed, Misplaced, TooLong}
-use Rattle.lister.specs.Listings.{read_freely, end_line, verdict_on}
+use Rattle.columns.specs.TableText.{Form, Order, Room, Said, counted, passes, start, first_fault, read_by, read_table, contents, code_of, lines_of, room_of, extent_of}
+use Rattle.rules.specs.declared.fault.TableFault.TheVariants.{TooFewPlaces}
+use Rattle.rules.specs.Operands.{operand_fault}
+use Rattle.rules.specs.Procedures.{table_fault}
+use Rattle.judge.specs.Judgement.{places_fault, judged_after, judged, answered}
+use Rattle.prepare.specs.Preparing.{ready, prepared}
+use Rattle.lister.specs.Listings.{read_freely, judged_freely, end_line, verdict_on}
 
 -- a place in each list for each line
 abbrev pub room_for : List ℕ → Extent
@@ -36,40 +44,64 @@ roomy room c n (Ok (line.Code k x) ∷ xs) p d i =
     grind (arith, nat_tests)
 roomy room c n (Err e ∷ xs) p d i = roomy room c (n + 1) xs (omega arith) (omega arith) (omega arith)
 
-mapped_length : (ls : List (List ℕ)) → length (map read_line ls) ≡ length ls
-mapped_length [] = refl
-mapped_length (l ∷ ls) = let ih = mapped_length ls in omega arith
-
 lines_give_room : (text : List ℕ) → first_fault (Room (room_for text)) text ≡ None
 lines_give_room text =
-    let e = mapped_length (lines text) in
+    let e = length-map (lines text) read_line in
     roomy (room_for text) start 1 (map read_line (lines text)) (omega arith) (omega arith) (omega arith)
 
 by_scans : (text : List ℕ) (room : Extent) (f o r : Option ℕ) → r ≡ None →
-    answered (read_by (refuse Malformed f (refuse Misplaced o (refuse TooLong r (Ok tt)))) text)
-    ≡ refuse Malformed f (refuse Misplaced o (Ok (extent_of (contents (lines_of text)))))
+    read_by (refuse Malformed f (refuse Misplaced o (refuse TooLong r (Ok tt)))) text
+    ≡ refuse Malformed f (refuse Misplaced o (Ok (contents (lines_of text))))
 by_scans text room (Some n) o r e = refl
 by_scans text room None (Some n) r e = refl
 by_scans text room None None None e = refl
 by_scans text room None None (Some n) e = let z : ◌≡◌ {A = ℕ} 0 1 = cc in grind arith
 
-pub reads_freely : (text : List ℕ) → answered (read_table (room_for text) text) ≡ read_freely text
+reads_freely : (text : List ℕ) → read_table (room_for text) text ≡ read_freely text
 reads_freely text = by_scans text (room_for text) (first_fault Form text) (first_fault Order text) (first_fault (Room (room_for text)) text) (lines_give_room text)
 
--- an empty text has no lines left to count
-pub all_counted : (rest : List ℕ) (n all : ℕ) → length rest ≡ 0 → length (lines rest) + n ≡ all → n ≡ all
-all_counted [] n all e h = omega arith
-all_counted (c ∷ cs) n all e h = grind arith
+-- lists with a place for each line are read into as freely as may be
+pub read_by_lines : (text : List ℕ) (n : ℕ) (ps : List Procedure) (ts : List Kind) (is : List Instruction) →
+    n ≡ length (lines text) → length ps ≡ n → length ts ≡ n → length is ≡ n → read_table (room_of ps ts is) text ≡ read_freely text
+read_by_lines text n ps ts is e p t i =
+    let same : room_of ps ts is ≡ room_for text = cc in
+    ap (λ r. read_table r text) same ∙ reads_freely text
 
-pub room_by_lines : (text : List ℕ) (n : ℕ) (ps : List Procedure) (ts : List Kind) (is : List Instruction) →
-    n ≡ length (lines text) → length ps ≡ n → length ts ≡ n → length is ≡ n → room_of ps ts is ≡ room_for text
-room_by_lines text n ps ts is e p t i = cc
+-- judging asks for no more than a row and a place for each instruction
+enough : (T : Contents) (r w : ℕ) → length T.code ≤ r → length T.code ≤ w → places_fault T r w ≡ None
+enough T r w h k = ap (λ b. cond (b && leb (length T.code) w) None (Some TooFewPlaces)) (le-leb (length T.code) r h) ∙ ap (λ b. cond b None (Some TooFewPlaces)) (le-leb (length T.code) w k)
 
--- what is read into a place for each line is read freely
-pub verdict_by_lines : (text verdict : List ℕ) (n : ℕ) (ps : List Procedure) (ts : List Kind) (is : List Instruction) (answer : Result Extent TextFault) →
-    n ≡ length (lines text) → length ps ≡ n → length ts ≡ n → length is ≡ n →
-    answer ≡ answered (read_table (room_of ps ts is) text) → verdict ≡ end_line answer → verdict ≡ verdict_on text
-verdict_by_lines text verdict n ps ts is answer e p t i a v =
-    let room = room_by_lines text n ps ts is e p t i in
-    let same : answer ≡ read_freely text = a ∙ ap (λ r. answered (read_table r text)) room ∙ reads_freely text in
-    v ∙ ap end_line same
+pub judged_by_enough : (T : Contents) (r w : ℕ) → length T.code ≤ r → length T.code ≤ w → judged T r w ≡ judged T (length T.code) (length T.code)
+judged_by_enough T r w h k =
+    ap (λ f. judged_after (option_or (table_fault T) (option_or f (operand_fault T))) T)
+    (enough T r w h k ∙ sym (enough T (length T.code) (length T.code) (omega arith) (omega arith)))
+
+-- tables of the same lists are one
+pub one_table : (T U : Contents) → T.procedures ≡ U.procedures → T.cells ≡ U.cells → T.code ≡ U.code → T ≡ U
+one_table T U p d i = λ k. record { procedures = p k; cells = d k; code = i k }
+
+few_code : (xs : List Said) → length (code_of xs) ≤ length xs
+few_code [] = omega arith
+few_code (Ok (line.Procedure h) ∷ xs) = let ih = few_code xs in omega arith
+few_code (Ok (line.Cell t) ∷ xs) = let ih = few_code xs in omega arith
+few_code (Ok (line.Code k x) ∷ xs) = let ih = few_code xs in omega arith
+few_code (Err e ∷ xs) = let ih = few_code xs in omega arith
+
+freely : (T : Contents) (n : ℕ) → length T.code ≤ n → (f o : Option ℕ) →
+    prepared (refuse Malformed f (refuse Misplaced o (Ok T))) n n ≡ judged_freely (refuse Malformed f (refuse Misplaced o (Ok T)))
+freely T n h (Some k) o = refl
+freely T n h None (Some k) = refl
+freely T n h None None = ap (λ r. ready (extent_of T) (answered r)) (judged_by_enough T n n h h)
+
+-- what is read and judged with a place for each line is so as freely as may be
+pub verdict_by_lines : (text verdict : List ℕ) (n r w : ℕ) (ps : List Procedure) (ts : List Kind) (is : List Instruction) →
+    n ≡ length (lines text) → length ps ≡ n → length ts ≡ n → length is ≡ n → r ≡ n → w ≡ n →
+    verdict ≡ end_line (prepared (read_table (room_of ps ts is) text) r w) → verdict ≡ verdict_on text
+verdict_by_lines text verdict n r w ps ts is e p t i a b v =
+    let m = length-map (lines text) read_line in
+    let few = few_code (lines_of text) in
+    v
+    ∙ ap (λ x. end_line (prepared x r w)) (read_by_lines text n ps ts is e p t i)
+    ∙ ap (λ k. end_line (prepared (read_freely text) k w)) a
+    ∙ ap (λ k. end_line (prepared (read_freely text) n k)) b
+    ∙ ap end_line (freely (contents (lines_of text)) n (omega arith) (first_fault Form text) (first_fault Order text))

@@ -1,5 +1,7 @@
 // The parts of a listing: a heading, then the procedures with their cells and instructions.
 use crate::row::row;
+use crate::stack::stack;
+use rows::row::Row;
 use sheet::instruction::Instruction;
 use sheet::kind::Kind;
 use sheet::procedure::Procedure;
@@ -48,16 +50,21 @@ fn list_cells(
     Ok(())
 }
 
-// The instructions from one number to before another.
+// The instructions from one number to before another, each with the stack before it where paths were followed.
 fn list_code(
     heap: Global,
     out: &mut String,
     from: usize,
     to: usize,
     code: &[Instruction],
+    rows: &[Row],
 ) -> Result<(), AllocError> {
     for (i, instruction) in code.iter().enumerate().take(to).skip(from) {
-        let line = row(heap, i, *instruction)?;
+        let before = match rows.get(i) {
+            Some(row) => stack(heap, *row)?,
+            None => String::new(heap),
+        };
+        let line = row(heap, i, *instruction, before.as_str())?;
         out.push_str(line.as_str())?;
     }
     Ok(())
@@ -73,7 +80,11 @@ fn earliest(procedures: &[Procedure]) -> usize {
 }
 
 // The listing of a table. Nothing is taken for granted: the table may break every rule.
-pub(crate) fn list_parts(heap: Global, table: Table<'_>) -> Result<String, AllocError> {
+pub(crate) fn list_parts(
+    heap: Global,
+    table: Table<'_>,
+    rows: &[Row],
+) -> Result<String, AllocError> {
     let Table {
         procedures,
         cells,
@@ -86,7 +97,7 @@ pub(crate) fn list_parts(heap: Global, table: Table<'_>) -> Result<String, Alloc
     let outside = earliest(procedures);
     if outside > 0 && n > 0 {
         out.push_str("\nIn no procedure\n")?;
-        list_code(heap, &mut out, 0, outside, code)?;
+        list_code(heap, &mut out, 0, outside, code, rows)?;
     }
     for (i, procedure) in procedures.iter().enumerate() {
         let text = heading(heap, i, *procedure)?;
@@ -97,7 +108,7 @@ pub(crate) fn list_parts(heap: Global, table: Table<'_>) -> Result<String, Alloc
         if procedure.count > 0 && from < to {
             out.push('\n')?;
         }
-        list_code(heap, &mut out, from, to, code)?;
+        list_code(heap, &mut out, from, to, code, rows)?;
     }
     out.push('\n')?;
     Ok(out)

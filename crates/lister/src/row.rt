@@ -48,11 +48,12 @@ fn own_effect(heap: Global, instruction: Instruction) -> Result<String, AllocErr
     Ok(text)
 }
 
-// Its number, the instruction as it is spoken of, its effect on the stack and its meaning.
+// Its number, the instruction as it is spoken of, the stack before it, its effect on the stack and its meaning.
 pub(crate) fn row(
     heap: Global,
     number: usize,
     instruction: Instruction,
+    before: &str,
 ) -> Result<String, AllocError> {
     let Instruction {
         mnemonic,
@@ -71,5 +72,5 @@ pub(crate) fn row(
     let text = format!(in heap; "{name}{t}{t2}{p}{q}")?;
     let effect = own_effect(heap, instruction)?;
     let meaning = meaning(mnemonic);
-    format!(in heap; "{number:>6}  {text:<28}  {effect:<22}  {meaning}\n")
+    format!(in heap; "{number:>6}  {text:<28}  {before:<20}  {effect:<22}  {meaning}\n")
 }

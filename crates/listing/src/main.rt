@@ -9,12 +9,14 @@ use std::io::{Read, Write};
 const HELP: &str = "listing: a table for people to read
 
   listing < TABLE     lists the table text on standard input: its procedures with their data cells,
-                      then its instructions, each with its effect on the stack
+                      then its instructions, each with the stack before it, its effect and its meaning
   listing --help      prints this
 
 A ! marks a letter or an operand where the instruction takes none, and a - where a letter is due.
-The last line is z, a number and a place: 0 and the count of instructions, or why the text was
-refused and the line.
+Stacks have the top at the right; \"not reached\" stands where no path leads. Where the table is
+refused, the stacks are those that paths brought until then.
+The last line is z, a number and a place: 0 and how many instructions paths reach, or why the text
+or the table was refused, and the line, procedure or instruction.
 ";
 
 // Longer texts are refused.
