@@ -32,7 +32,7 @@ fn read_extent(words: &mut SplitWhitespace<'_>) -> Option<Extent> {
     })
 }
 
-pub fn read_case(line: &str) -> Option<Case<'_>> {
+pub(crate) fn read_case(line: &str) -> Option<Case<'_>> {
     let mut words = line.split_whitespace();
     let name = words.next()?;
     let room = read_extent(&mut words)?;
@@ -43,7 +43,7 @@ pub fn read_case(line: &str) -> Option<Case<'_>> {
     Some(Case { name, room, recipe })
 }
 
-pub fn read_value_case(line: &str) -> Option<(&str, usize)> {
+pub(crate) fn read_value_case(line: &str) -> Option<(&str, usize)> {
     let mut words = line.split_whitespace();
     let name = words.next()?;
     let room = read_count(words.next())?;
@@ -51,7 +51,7 @@ pub fn read_value_case(line: &str) -> Option<(&str, usize)> {
 }
 
 impl Recipe<'_> {
-    pub fn text(self, heap: Global) -> Result<String, AllocError> {
+    pub(crate) fn text(self, heap: Global) -> Result<String, AllocError> {
         let mut text = String::new(heap);
         for i in 0..self.lines.procedures {
             let line = format!(in heap; "P{i:>6}     0     0     0-\n")?;

@@ -13,7 +13,7 @@ impl Lent {
         word.parse().ok().map(Lent)
     }
 
-    pub fn over(self, instructions: usize) -> usize {
+    pub(crate) fn over(self, instructions: usize) -> usize {
         instructions.saturating_add_signed(self.0)
     }
 }
@@ -26,7 +26,7 @@ pub struct JudgedCase<'a> {
     pub made: Option<usize>, // how many instructions a made text has
 }
 
-pub fn read_judged(line: &str) -> Option<JudgedCase<'_>> {
+pub(crate) fn read_judged(line: &str) -> Option<JudgedCase<'_>> {
     let mut words = line.split_whitespace();
     let name = words.next()?;
     let rows = Lent::read(words.next()?)?;
@@ -82,7 +82,10 @@ fn read_lent<'a>(words: &mut SplitWhitespace<'a>) -> Option<(&'a str, Lent)> {
     Some((name, rows))
 }
 
-pub fn read_admitted(heap: Global, line: &str) -> Result<Option<AdmittedCase<'_>>, AllocError> {
+pub(crate) fn read_admitted(
+    heap: Global,
+    line: &str,
+) -> Result<Option<AdmittedCase<'_>>, AllocError> {
     let mut words = line.split_whitespace();
     let Some((name, rows)) = read_lent(&mut words) else {
         return Ok(None);

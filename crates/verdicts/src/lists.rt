@@ -17,7 +17,7 @@ pub struct Lists {
 
 impl Lists {
     // As a text gives them; it has no more records than lines.
-    pub fn read(heap: Global, text: &[u8]) -> Result<Result<Lists, TextFault>, AllocError> {
+    pub(crate) fn read(heap: Global, text: &[u8]) -> Result<Result<Lists, TextFault>, AllocError> {
         let lines = Lines::new(text).count();
         let mut procedures = vec![in heap; Procedure::NONE; lines]?;
         let mut cells = vec![in heap; Kind::Integer; lines]?;
@@ -36,7 +36,7 @@ impl Lists {
         }))
     }
 
-    pub fn table(&self) -> Table<'_> {
+    pub(crate) fn table(&self) -> Table<'_> {
         Table {
             procedures: &self.procedures,
             cells: &self.cells,
@@ -46,7 +46,7 @@ impl Lists {
 }
 
 // The text of one procedure of so many instructions, two or more: each but the first and the last jumps to the next.
-pub fn made_text(heap: Global, count: usize) -> Result<String, AllocError> {
+pub(crate) fn made_text(heap: Global, count: usize) -> Result<String, AllocError> {
     let mut text = String::new(heap);
     text.push_str("P     0     0     0     0-\n")?;
     text.push_str("C     0 ent --           0           5\n")?;

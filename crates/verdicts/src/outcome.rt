@@ -31,7 +31,7 @@ pub struct Judged {
 }
 
 // 0 where there is none.
-pub fn number(fault: Option<TableFault>) -> u8
+pub(crate) fn number(fault: Option<TableFault>) -> u8
     ensures { result ≡ number_of fault }
 {
     fault.map_or(0, TableFault::number)
@@ -39,7 +39,7 @@ pub fn number(fault: Option<TableFault>) -> u8
 
 impl Judged {
     // The count of instructions with rows, or the procedure or instruction refused.
-    pub fn place(self) -> usize
+    pub(crate) fn place(self) -> usize
         ensures { result ≡ place_of self.answer }
     {
         match self.answer {
@@ -75,7 +75,7 @@ fn places_left(places: &[usize], n: usize) -> Left
 }
 
 // Judges a table with so many rows and places.
-pub fn try_judge(
+pub(crate) fn try_judge(
     heap: Global,
     table: Table<'_>,
     rows: usize,
@@ -110,7 +110,7 @@ fn rows_before(heap: Global, table: Table<'_>, rows: usize) -> Result<Vec<Row>, 
 }
 
 // These rows with the changes made; one past the rows lent changes nothing.
-pub fn changed_rows(
+pub(crate) fn changed_rows(
     heap: Global,
     table: Table<'_>,
     rows: usize,
@@ -126,7 +126,7 @@ pub fn changed_rows(
 }
 
 // Admits a table with these rows.
-pub fn try_admit(table: Table<'_>, rows: &[Row]) -> Option<TableFault>
+pub(crate) fn try_admit(table: Table<'_>, rows: &[Row]) -> Option<TableFault>
     ensures { result ≡ admitted (contents_of table.entry) (length rows.now) (rows_for table.entry rows.now) }
 {
     admit(table, rows).err()

@@ -21,7 +21,7 @@ fn read_entries(word: &str) -> Option<Row> {
 }
 
 // `.` is the empty stack, `-` is no row.
-pub fn read_row(word: &str) -> Option<Row> {
+pub(crate) fn read_row(word: &str) -> Option<Row> {
     match word {
         "." => Some(Row::empty()),
         "-" => Some(Row::unreached()),
