@@ -67,6 +67,7 @@ fn count<T: PartialEq>(list: &[T], x: &T) -> usize {
 }
 
 // Reads a text into lists of these lengths.
+#[tactic(auto, using(crate::proofs::Rooms::answer_by_room))]
 pub fn try_table(heap: Global, text: &[u8], room: Extent) -> Result<Outcome, AllocError>
     ensures { IfOk result (λ o. o.answer ≡ answered (read_table room text.now)) }
 {

@@ -1,8 +1,15 @@
 -- The text of a table. Cited by the reader of tables and by the laws on it. Assumes nothing.
---   lines_of: what each line of a text says by itself
---   passes: the test of each scan, in the order of the refusals 11, 12, 13
---   contents: the three lists that the lines make
---   read_table: the first line at fault under the lowest number, or the three lists
+--   Said, lines_of: what each line of a text says by itself
+--   start, counted: what is counted before the first line, and with a line more: the records of each list, and the cells of
+--     the last procedure
+--   in_order, has_room: a line is in order, and its record has a place in the lists
+--   Scan, passes: the scans, in the order of the refusals 11, 12, 13, and the test of each
+--   record_of, own_cells: the record of a procedure, and how many cell lines follow its own
+--   procedures_of, cells_of, code_of, contents: the three lists that the lines make
+--   first_fault, verdict: the first line that fails a scan, and the first under the lowest number
+--   read_by, read_table: that, or the three lists
+--   room_of, extent_of: the room that three lists give, and what a table takes of it
+--   answered, left: what the call answers, and what it leaves in a list; one for each of the three
 use Rattle.std.specs.Prelude.{ℕ, ◌+◌, Bool, true, false, ◌&&◌, List, [], ◌∷◌, map, length, Ok, Err, Option, Result, ◌==◌, nat_lt}
 use Rattle.numerals.specs.Lines.{lines}
 use Rattle.sheet.specs.declared.kind.Kind.{Kind}

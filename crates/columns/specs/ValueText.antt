@@ -1,7 +1,11 @@
 -- The text of values. Cited by its reader and by the laws on it. Assumes nothing.
---   values_of: what each line of a text says by itself
---   value_passes: the test of each scan, in the order of the refusals 11, 12, 13
---   read_values: the first line at fault under the lowest number, or the values
+--   Typed, values_of: what each line of a text says by itself
+--   one_more: how many lines come before
+--   ValueScan, value_passes: the scans, in the order of the refusals 11, 12, 13, and the test of each
+--   first_value_fault, value_verdict: the first line that fails a scan, and the first under the lowest number
+--   good_values: the values of the lines that have one
+--   values_by, read_values: the verdict, or the values
+--   how_many, values_left: what the call answers, and what it leaves in the list
 use Rattle.std.specs.Prelude.{ℕ, ◌+◌, Bool, List, [], ◌∷◌, map, length, is_ok, Ok, Err, Option, Result, nat_lt}
 use Rattle.numerals.specs.Lines.{lines}
 use Rattle.sheet.specs.declared.value.Value.{Value}

@@ -10,9 +10,18 @@ use transfer::transfer::{Sent, transfer};
 pub(crate) struct Paths {
     // The stack that came first to each instruction.
     pub(crate) rows: Vec<Row>,
+    // The instruction that it came from.
+    came: Vec<usize>,
     // Another that came where it differs.
-    pub(crate) other: Option<Row>,
+    pub(crate) other: Option<Other>,
     work: Vec<usize>,
+}
+
+// A stack, and the instruction that it came from.
+#[derive(Clone, Copy, Drop)]
+pub(crate) struct Other {
+    pub(crate) row: Row,
+    pub(crate) from: usize,
 }
 
 // A path ends the search where it breaks a rule or brings another stack.
@@ -23,16 +32,28 @@ enum Step {
 }
 
 impl Paths {
+    // Where no path was followed.
+    pub(crate) fn none(heap: Global) -> Paths {
+        Paths {
+            rows: Vec::new(heap),
+            came: Vec::new(heap),
+            other: None,
+            work: Vec::new(heap),
+        }
+    }
+
     pub(crate) fn follow(heap: Global, table: Table<'_>) -> Result<Paths, AllocError> {
         let n = table.code.len();
         let mut paths = Paths {
             rows: vec![in heap; Row::unreached(); n]?,
+            came: vec![in heap; 0usize; n]?,
             other: None,
             work: Vec::new(heap),
         };
         for procedure in table.procedures {
             let row = entry_row(table, *procedure).unwrap_or(Row::unreached());
-            if let Step::Ends = paths.hand(procedure.first as usize, row)? {
+            let first = procedure.first as usize;
+            if let Step::Ends = paths.hand(first, first, row)? {
                 break;
             }
             if let Step::Ends = paths.settle(table)? {
@@ -63,27 +84,35 @@ impl Paths {
     fn hand_on(&mut self, i: usize, sent: Sent) -> Result<Step, AllocError> {
         let (first, second) = sent.way.successors(i);
         for n in [first, second].into_iter().flatten() {
-            if let Step::Ends = self.hand(n, sent.row)? {
+            if let Step::Ends = self.hand(i, n, sent.row)? {
                 return Ok(Step::Ends);
             }
         }
         Ok(Step::GoesOn)
     }
 
-    fn hand(&mut self, n: usize, row: Row) -> Result<Step, AllocError> {
+    fn hand(&mut self, from: usize, n: usize, row: Row) -> Result<Step, AllocError> {
         let Some(place) = self.rows.get_mut(n) else {
             return Ok(Step::Ends);
         };
         if !place.is_reached() {
             *place = row;
+            if let Some(came) = self.came.get_mut(n) {
+                *came = from;
+            }
             self.work.push(n)?;
             return Ok(Step::GoesOn);
         }
         if *place == row {
             return Ok(Step::GoesOn);
         }
-        self.other = Some(row);
+        self.other = Some(Other { row, from });
         Ok(Step::Ends)
+    }
+
+    // The instruction that the stack before this one came from.
+    pub(crate) fn came(&self, n: usize) -> usize {
+        self.came.get(n).copied().unwrap_or(n)
     }
 
     pub(crate) fn row(&self, n: usize) -> Row {

@@ -2,7 +2,14 @@
 #![tactic(auto)]
 
 mod again;
+mod blame;
+mod field;
+mod grid;
+mod ill_formed;
+mod not_allowed;
+mod notes;
 mod parts;
+mod quote;
 mod refusal;
 mod row;
 mod stack;

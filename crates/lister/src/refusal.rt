@@ -1,41 +1,42 @@
 // What a listing says of a text that is refused.
+use crate::blame::{Blame, malformed, misplaced};
+use crate::notes::Notes;
+use crate::quote::{body_of, line_of, quoted};
 use columns::fault::TextFault;
-use numerals::lines::Lines;
 use std::alloc::{AllocError, Global};
 
-// A longer line is not quoted.
-const LONGEST_QUOTE: usize = 100;
-
-// The line of this number, from 1, without its end; empty where the text has none.
-fn line_of(text: &[u8], number: usize) -> &[u8] {
-    let line = Lines::new(text)
-        .nth(number.saturating_sub(1))
-        .unwrap_or_default();
-    line.strip_suffix(b"\n").unwrap_or(line)
-}
-
-fn is_printable(line: &[u8]) -> bool {
-    line.iter().all(|b| (b' '..=b'~').contains(b))
-}
-
-fn quoted(heap: Global, line: &[u8]) -> Result<String, AllocError> {
-    if line.len() > LONGEST_QUOTE {
-        return format!(in heap; "too long to show");
-    }
-    match std::str::from_utf8(line) {
-        Ok(text) if is_printable(line) => format!(in heap; "\"{text}\""),
-        _ => format!(in heap; "not printable"),
+fn blame(heap: Global, text: &[u8], fault: TextFault, line: &[u8]) -> Result<Blame, AllocError> {
+    match fault {
+        TextFault::Malformed(_) => malformed(heap, line),
+        TextFault::Misplaced(_) | TextFault::TooLong(_) => misplaced(
+            heap,
+            text,
+            fault.line(),
+            line,
+        ),
     }
 }
 
-// The line at fault where it can be shown, and then the refusal in words.
+// The fault in words, the line at fault, and what was expected and found in it.
 pub(crate) fn refusal(heap: Global, text: &[u8], fault: TextFault) -> Result<String, AllocError> {
     let place = fault.line();
     let number = fault.number();
     let line = line_of(text, place);
-    let shown = quoted(heap, line)?;
-    let length = line.len();
-    format!(in heap;
-        "Refused\n\n{place:>6}  {shown}\n        length {length}, its end not counted\n\nline {place}: {number}, {fault}\n"
-    )
+    let Blame {
+        field,
+        expected,
+        found,
+    } = blame(heap, text, fault, line)?;
+    let mut notes = Notes::under(heap, format!(in heap; "{number} at line {place}")?);
+    notes.add(format!(in heap; "fault")?, format!(in heap; "{fault}")?)?;
+    notes.add(
+        format!(in heap; "line {place}")?,
+        quoted(heap, body_of(line))?,
+    )?;
+    if let Some(field) = field {
+        notes.add(String::new(heap), field.pointers(heap)?)?;
+    }
+    notes.add(format!(in heap; "expected")?, expected)?;
+    notes.add(format!(in heap; "found")?, found)?;
+    notes.text(heap)
 }

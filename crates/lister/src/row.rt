@@ -1,13 +1,15 @@
-// A line of the listing for an instruction.
-use crate::words::{effect, meaning};
+// A line of the listing for an instruction, in columns.
+use crate::grid::CodeLine;
+use crate::stack::stack_within;
+use crate::words::{own_effect, own_meaning, sign};
+use rows::row::Row;
 use sheet::instruction::Instruction;
 use sheet::kind::Kind;
 use sheet::shape::{Letters, Rule, Shape};
 use std::alloc::{AllocError, Global};
 
-fn sign(kind: Option<Kind>) -> char {
-    kind.map_or('-', |kind| kind.letter() as char)
-}
+// A wider stack is shown by its top.
+const WIDEST_STACK: usize = 32;
 
 // A letter after a blank: nothing where none is due, and a ! before one that is not due, or in place of one that is.
 fn letter(heap: Global, is_due: bool, kind: Option<Kind>) -> Result<String, AllocError> {
@@ -35,26 +37,8 @@ fn target(heap: Global, shape: Shape, q: i32) -> Result<String, AllocError> {
     }
 }
 
-// The stack effect with the instruction's own letters.
-fn own_effect(heap: Global, instruction: Instruction) -> Result<String, AllocError> {
-    let mut text = String::new(heap);
-    for c in effect(instruction.mnemonic).chars() {
-        match c {
-            'T' => text.push(sign(instruction.t))?,
-            'U' => text.push(sign(instruction.t2))?,
-            _ => text.push(c)?,
-        }
-    }
-    Ok(text)
-}
-
-// Its number, the instruction as it is spoken of, the stack before it, its effect on the stack and its meaning.
-pub(crate) fn row(
-    heap: Global,
-    number: usize,
-    instruction: Instruction,
-    before: &str,
-) -> Result<String, AllocError> {
+// Its letters and operands, each after a blank.
+fn operands(heap: Global, instruction: Instruction) -> Result<String, AllocError> {
     let Instruction {
         mnemonic,
         t,
@@ -63,14 +47,46 @@ pub(crate) fn row(
         q,
     } = instruction;
     let shape = mnemonic.shape();
-    let name = mnemonic.name();
-    let name = std::str::from_utf8(&name).unwrap_or("?");
     let t = letter(heap, shape.letters != Letters::Nothing, t)?;
     let t2 = letter(heap, shape.letters == Letters::Pair, t2)?;
     let p = operand(heap, shape.p, p)?;
     let q = target(heap, shape, q)?;
-    let text = format!(in heap; "{name}{t}{t2}{p}{q}")?;
-    let effect = own_effect(heap, instruction)?;
-    let meaning = meaning(mnemonic);
-    format!(in heap; "{number:>6}  {text:<28}  {before:<20}  {effect:<22}  {meaning}\n")
+    format!(in heap; "{t}{t2}{p}{q}")
+}
+
+// An instruction as it is spoken of.
+pub(crate) fn spoken(heap: Global, instruction: Instruction) -> Result<String, AllocError> {
+    let name = instruction.mnemonic.name();
+    let name = std::str::from_utf8(&name).unwrap_or("?").trim_end();
+    let operands = operands(heap, instruction)?;
+    format!(in heap; "{name}{operands}")
+}
+
+// The same, with its letters and operands below those of other instructions.
+fn aligned(heap: Global, instruction: Instruction) -> Result<String, AllocError> {
+    let name = instruction.mnemonic.name();
+    let name = std::str::from_utf8(&name).unwrap_or("?");
+    let operands = operands(heap, instruction)?;
+    let text = format!(in heap; "{name}{operands}")?;
+    String::from_str(heap, text.as_str().trim_end())
+}
+
+// The columns of an instruction's line, with the stack before it where there is one to show.
+pub(crate) fn code_line(
+    heap: Global,
+    number: usize,
+    instruction: Instruction,
+    before: Option<Row>,
+) -> Result<CodeLine, AllocError> {
+    let before = match before {
+        Some(row) => Some(stack_within(heap, row, WIDEST_STACK)?),
+        None => None,
+    };
+    Ok(CodeLine {
+        number,
+        text: aligned(heap, instruction)?,
+        before,
+        effect: own_effect(heap, instruction)?,
+        meaning: own_meaning(heap, instruction)?,
+    })
 }

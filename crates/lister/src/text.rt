@@ -1,17 +1,16 @@
 ghost use Rattle.std.specs.Prelude.{◌≡◌, length, IfOk};
 ghost use Rattle.columns.specs.TableText.{read_table, room_of};
 ghost use Rattle.prepare.specs.Preparing.{prepared};
-ghost use Rattle.numerals.specs.Lines.{lines};
 ghost use Rattle.lister.specs.Listings.{EndsIn, end_line, verdict_on};
 
 use crate::again::Paths;
-use crate::parts::list_parts;
+use crate::parts::{Culprit, Judged, list_parts, list_stacks};
 use crate::refusal::refusal;
-use crate::why::why;
+use crate::why::{culprit, why};
 use columns::table_text::read_table;
 use columns::verdict::write_verdict;
 use judge::judge;
-use numerals::lines::Lines;
+use numerals::lines::line_count;
 use prepare::fault::PrepareFault;
 use prepare::prepare::Prepared;
 use rows::row::Row;
@@ -21,13 +20,6 @@ use sheet::kind::Kind;
 use sheet::procedure::Procedure;
 use sheet::table::Table;
 use std::alloc::{AllocError, Global};
-
-// How many lines a text has: no list has more records.
-fn line_count(text: &[u8]) -> usize
-    ensures { result ≡ length (lines text.now) }
-{
-    Lines::new(text).count()
-}
 
 // The verdict: 0 and how many instructions paths reach, or the refusal's number and its place.
 fn end_line(answer: Result<Prepared, PrepareFault>) -> [u8; 42]
@@ -48,52 +40,99 @@ fn ended(body: String, verdict: [u8; 42]) -> Result<Vec<u8>, AllocError>
     Ok(out)
 }
 
-// A table that is refused: the stacks that paths bring, where they were followed, and what is wrong.
-fn refused(heap: Global, table: Table<'_>, fault: TableFault) -> Result<String, AllocError> {
-    let paths = Paths::follow(heap, table)?;
-    let mut out = match fault {
-        TableFault::IllFormed(_) | TableFault::NotAllowed(_) => list_parts(heap, table, &[])?,
-        _ => list_parts(heap, table, &paths.rows)?,
-    };
-    let why = why(heap, table, &paths, fault)?;
-    out.push_str(why.as_str())?;
-    Ok(out)
+// How much of a table is listed.
+#[derive(Clone, Copy, Drop)]
+enum Form {
+    Whole,
+    Stacks,
 }
 
-// Reads a text into these lists and judges what they hold: all but the last line of its listing, and the verdict.
-fn list_in(
-    heap: Global,
-    text: &[u8],
-    procedures: &mut [Procedure],
-    cells: &mut [Kind],
-    code: &mut [Instruction],
-    rows: &mut [Row],
-    places: &mut [usize],
-) -> Result<(String, [u8; 42]), AllocError>
-    ensures { IfOk result (λ l. l.1 ≡ end_line (prepared (read_table (room_of procedures.old cells.old code.old) text.now) (length rows.old) (length places.old))) }
-{
-    let extent = match read_table(text, procedures, cells, code) {
-        Ok(extent) => extent,
-        Err(fault) => {
-            let body = refusal(heap, text, fault)?;
-            return Ok((body, end_line(Err(PrepareFault::Text(fault)))));
-        }
-    };
-    let table = extent.table_in(procedures, cells, code);
-    match judge(table, rows, places) {
-        Ok(reached) => {
-            let body = list_parts(heap, table, rows)?;
-            Ok((body, end_line(Ok(Prepared { extent, reached }))))
-        }
-        Err(fault) => {
-            let body = refused(heap, table, fault)?;
-            Ok((body, end_line(Err(PrepareFault::Table(fault)))))
+impl Form {
+    fn list(self, heap: Global, judged: Judged<'_>) -> Result<String, AllocError> {
+        match self {
+            Form::Whole => list_parts(heap, judged),
+            Form::Stacks => list_stacks(heap, judged),
         }
     }
 }
 
-// The whole listing of a table's text. It ends in the verdict on it: read, and then judged.
-pub fn list_table(heap: Global, text: &[u8]) -> Result<Vec<u8>, AllocError>
+// What is to be listed, and how.
+#[derive(Clone, Copy, Drop)]
+struct Request<'a> {
+    heap: Global,
+    text: &'a [u8],
+    form: Form,
+}
+
+// The rows of the instructions, of those that are lent for more.
+fn own_rows<'a>(table: Table<'_>, rows: &'a [Row]) -> &'a [Row] {
+    rows.get(..table.code.len()).unwrap_or(rows)
+}
+
+impl Request<'_> {
+    fn accepted(self, table: Table<'_>, rows: &[Row]) -> Result<String, AllocError> {
+        let judged = Judged {
+            table,
+            rows: own_rows(table, rows),
+            culprit: Culprit::Nothing,
+        };
+        self.form.list(self.heap, judged)
+    }
+
+    // The stacks that paths brought, where they were followed, and what is wrong.
+    fn refused(self, table: Table<'_>, fault: TableFault) -> Result<String, AllocError> {
+        let heap = self.heap;
+        let paths = match fault {
+            TableFault::IllFormed(_) | TableFault::NotAllowed(_) => Paths::none(heap),
+            _ => Paths::follow(heap, table)?,
+        };
+        let judged = Judged {
+            table,
+            rows: &paths.rows,
+            culprit: culprit(table, fault),
+        };
+        let mut out = self.form.list(heap, judged)?;
+        if matches!(self.form, Form::Stacks) && !paths.rows.is_empty() {
+            out.push('\n')?;
+        }
+        let why = why(heap, self.text, table, &paths, fault)?;
+        out.push_str(why.as_str())?;
+        Ok(out)
+    }
+
+    // Reads the text into these lists and judges what they hold: all but the last line of its listing, and the verdict.
+    fn list_in(
+        self,
+        procedures: &mut [Procedure],
+        cells: &mut [Kind],
+        code: &mut [Instruction],
+        rows: &mut [Row],
+        places: &mut [usize],
+    ) -> Result<(String, [u8; 42]), AllocError>
+        ensures { IfOk result (λ l. l.1 ≡ end_line (prepared (read_table (room_of procedures.old cells.old code.old) self.entry.text.now) (length rows.old) (length places.old))) }
+    {
+        let extent = match read_table(self.text, procedures, cells, code) {
+            Ok(extent) => extent,
+            Err(fault) => {
+                let body = refusal(self.heap, self.text, fault)?;
+                return Ok((body, end_line(Err(PrepareFault::Text(fault)))));
+            }
+        };
+        let table = extent.table_in(procedures, cells, code);
+        match judge(table, rows, places) {
+            Ok(reached) => {
+                let body = self.accepted(table, rows)?;
+                Ok((body, end_line(Ok(Prepared { extent, reached }))))
+            }
+            Err(fault) => {
+                let body = self.refused(table, fault)?;
+                Ok((body, end_line(Err(PrepareFault::Table(fault)))))
+            }
+        }
+    }
+}
+
+fn listed(heap: Global, text: &[u8], form: Form) -> Result<Vec<u8>, AllocError>
     ensures { IfOk result (λ out. EndsIn (verdict_on text.now) out.items) }
 {
     let lines = line_count(text);
@@ -102,9 +141,8 @@ pub fn list_table(heap: Global, text: &[u8]) -> Result<Vec<u8>, AllocError>
     let mut code = vec![in heap; Instruction::NONE; lines]?;
     let mut rows = vec![in heap; Row::unreached(); lines]?;
     let mut places = vec![in heap; 0usize; lines]?;
-    let (body, verdict) = list_in(
-        heap,
-        text,
+    let request = Request { heap, text, form };
+    let (body, verdict) = request.list_in(
         &mut procedures,
         &mut cells,
         &mut code,
@@ -112,4 +150,18 @@ pub fn list_table(heap: Global, text: &[u8]) -> Result<Vec<u8>, AllocError>
         &mut places,
     )?;
     ended(body, verdict)
+}
+
+// The whole listing of a table's text. It ends in the verdict on it: read, and then judged.
+pub fn list_table(heap: Global, text: &[u8]) -> Result<Vec<u8>, AllocError>
+    ensures { IfOk result (λ out. EndsIn (verdict_on text.now) out.items) }
+{
+    listed(heap, text, Form::Whole)
+}
+
+// Only the stack before each instruction, as far as paths brought one, and where the text is refused, why. It ends likewise.
+pub fn list_rows(heap: Global, text: &[u8]) -> Result<Vec<u8>, AllocError>
+    ensures { IfOk result (λ out. EndsIn (verdict_on text.now) out.items) }
+{
+    listed(heap, text, Form::Stacks)
 }

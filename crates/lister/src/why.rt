@@ -1,104 +1,21 @@
-// What a listing says of a table that is refused: what was expected and what was found.
+// What a listing says of a table that is refused: the line at fault, what was expected there and what was found.
 use crate::again::Paths;
+use crate::ill_formed::{broken_rule, counts_are_wrong};
+use crate::not_allowed::not_allowed;
+use crate::notes::{Notes, Pair};
+use crate::parts::Culprit;
+use crate::quote::{body_of, line_of, quoted};
+use crate::row::spoken;
 use crate::stack::{Words, stack};
 use rows::entry::Entry;
 use rows::row::Row;
 use rules::effects::{Gives, Takes, effect_of};
 use rules::fault::TableFault;
-use rules::lookup::{ancestor, cells_at, owner, procedure_at, procedure_of, room_at};
+use rules::lookup::{ancestor, cells_at, owner, procedure_at, room_at};
 use sheet::instruction::Instruction;
 use sheet::procedure::Procedure;
-use sheet::shape::{Letters, Rule};
 use sheet::table::Table;
 use std::alloc::{AllocError, Global};
-
-// Which rule of tables the lowest procedure at fault breaks first.
-fn broken_rule(heap: Global, table: Table<'_>, n: usize) -> Result<String, AllocError> {
-    let Table {
-        procedures,
-        cells,
-        code,
-    } = table;
-    if !(1..=4096).contains(&code.len()) || !(1..=64).contains(&procedures.len()) {
-        return format!(in heap; "1 to 4,096 instructions and 1 to 64 procedures");
-    }
-    let Procedure {
-        parent,
-        first,
-        parameters,
-        result,
-        count,
-        ..
-    } = procedure_at(table, n);
-    if n == 0 && (parent != 0 || first != 0 || parameters != 0 || result.is_some()) {
-        return format!(in heap;
-            "of procedure 0, parent 0, first instruction 0, no parameters and no result"
-        );
-    }
-    if n > 0 && parent as usize >= n {
-        return format!(in heap; "a parent with a lower number than {n}");
-    }
-    let before = procedure_at(table, n.saturating_sub(1)).first;
-    if n > 0 && first <= before {
-        return format!(in heap;
-            "a first instruction above {before}, where the procedure before begins"
-        );
-    }
-    if first as usize >= code.len() {
-        let end = code.len();
-        return format!(in heap; "a first instruction below {end}");
-    }
-    if parameters > 35 || parameters > count {
-        return format!(in heap; "at most 35 parameters, and as many data cells");
-    }
-    let own = cells.len();
-    if count > Procedure::MOST_CELLS {
-        return format!(in heap; "at most 250 data cells, of the {own} there are");
-    }
-    format!(in heap;
-        "at most 7 parents up to procedure 0, and data cells after those of the procedure before"
-    )
-}
-
-fn allowed_letters(letters: Letters) -> &'static str {
-    match letters {
-        Letters::Nothing => "no letter",
-        Letters::Number => "the letter i or r",
-        Letters::Every => "the letter a, b, c, i or r",
-        Letters::Ordinal => "the letter a, c or i",
-        Letters::Reads => "the letter b, c, i or r",
-        Letters::Pair => "the letters i r, r i, c i or i c",
-    }
-}
-
-fn allowed_operands(rule: Rule) -> &'static str {
-    match rule {
-        Rule::Free => "unused operands 0",
-        Rule::Constant => "for q, a constant of this kind",
-        Rule::Global => "for q, a data cell of this kind of procedure 0",
-        Rule::Local => "for p and q, a data cell of this kind of an ancestor, or its result at 0",
-        Rule::Address => "for p and q, a data cell of an ancestor",
-        Rule::Label => "for q, a place in the same procedure that is not its first",
-        Rule::Link => "for p, an ancestor",
-        Rule::Call =>
-            "for q, the first instruction of a procedure but 0, and for p, its parameters",
-        Rule::Enter => "to begin a procedure, with 0 to 40 for p and the size of the frame for q",
-        Rule::Function => "to lie in a procedure with a result",
-        Rule::Procedure => "to lie in a procedure but 0 without a result",
-    }
-}
-
-// Every procedure begins with ent, and ent stands nowhere else.
-fn allowed(heap: Global, table: Table<'_>, n: usize, x: Instruction) -> Result<String, AllocError> {
-    let shape = x.mnemonic.shape();
-    let is_first = procedure_of(table, n).first as usize == n;
-    if is_first && shape.rule != Rule::Enter {
-        return format!(in heap; "ent, as the first instruction of a procedure");
-    }
-    let letters = allowed_letters(shape.letters);
-    let operands = allowed_operands(shape.rule);
-    format!(in heap; "{letters}, and {operands}")
-}
 
 // The mark that a call needs: it leads from the caller to the procedure that the callee stands in.
 fn mark_wanted(
@@ -150,11 +67,12 @@ fn taken(heap: Global, table: Table<'_>, n: usize, takes: Takes) -> Result<Strin
     words.end()
 }
 
-fn cells_taken(takes: Takes) -> usize {
+// The entries of the stack that an instruction takes.
+fn entries_taken(takes: Takes) -> usize {
     match takes {
         Takes::Kinds(top, below) => usize::from(top.is_some()) + usize::from(below.is_some()),
         Takes::Parameters(procedure) => procedure.parameters as usize,
-        Takes::Call(procedure) => procedure.parameters as usize + 5,
+        Takes::Call(procedure) => procedure.parameters as usize + 1,
     }
 }
 
@@ -167,69 +85,149 @@ fn cells_given(gives: Gives) -> usize {
     }
 }
 
-fn cells_of(row: Row) -> usize {
-    row.entry_bytes().iter().fold(
+fn add_given(heap: Global, words: &mut Words, gives: Gives) -> Result<(), AllocError> {
+    match gives {
+        Gives::Nothing => Ok(()),
+        Gives::One(kind) => words.add_kind(heap, kind),
+        Gives::Two(kind) => {
+            words.add_kind(heap, kind)?;
+            words.add_kind(heap, kind)
+        }
+        Gives::Mark(links) => words.add_mark(heap, links),
+    }
+}
+
+fn cells_of(entries: &[u8]) -> usize {
+    entries.iter().fold(
         0,
         |cells: usize, byte| cells.saturating_add(Entry::from(*byte).cells()),
     )
 }
 
-// What was expected at the place of a refusal, and what was found there.
+// The line of the text that a culprit stands in: each procedure has a line, then one for each data cell, and then come the instructions.
+fn line_number(table: Table<'_>, culprit: Culprit) -> Option<usize> {
+    let before = match culprit {
+        Culprit::Nothing => return None,
+        Culprit::Procedure(n) => n.saturating_add(procedure_at(table, n).offset),
+        Culprit::Instruction(n) => n
+            .saturating_add(table.procedures.len())
+            .saturating_add(table.cells.len()),
+    };
+    Some(before.saturating_add(1))
+}
+
+// What a refusal of a table points at.
+pub(crate) fn culprit(table: Table<'_>, fault: TableFault) -> Culprit {
+    match fault {
+        TableFault::IllFormed(_) if counts_are_wrong(table) => Culprit::Nothing,
+        TableFault::IllFormed(n) => Culprit::Procedure(n),
+        TableFault::TooFewPlaces => Culprit::Nothing,
+        _ => Culprit::Instruction(fault.place()),
+    }
+}
+
+// The number, and what it points at: an instruction as it is spoken of.
+fn head(
+    heap: Global,
+    table: Table<'_>,
+    culprit: Culprit,
+    number: u8,
+) -> Result<String, AllocError> {
+    match culprit {
+        Culprit::Nothing => format!(in heap; "{number}"),
+        Culprit::Procedure(n) => format!(in heap; "{number} at procedure {n}"),
+        Culprit::Instruction(n) => {
+            let x = table.code.get(n).copied().unwrap_or(Instruction::NONE);
+            let words = spoken(heap, x)?;
+            format!(in heap; "{number} at instruction {n}, {words}")
+        }
+    }
+}
+
+// The stack that an instruction would leave has more cells than its ent allows.
+fn too_high(heap: Global, table: Table<'_>, n: usize, row: Row) -> Result<Pair, AllocError> {
+    let x = table.code.get(n).copied().unwrap_or(Instruction::NONE);
+    let effect = effect_of(table, n, x);
+    let room = room_at(table, n);
+    let entries = row.entry_bytes();
+    let kept = entries.len().saturating_sub(entries_taken(effect.takes));
+    let kept = entries.get(..kept).unwrap_or(entries);
+    let cells = cells_of(kept).saturating_add(cells_given(effect.gives));
+    let mut words = Words::begin(heap)?;
+    words.add_entries(heap, kept)?;
+    add_given(heap, &mut words, effect.gives)?;
+    let after = words.end()?;
+    Ok((
+        format!(in heap; "at most {room} cells of stack after it")?,
+        format!(in heap; "{cells}, of {after}")?,
+    ))
+}
+
+// What was expected, and what was found.
 fn expected(
     heap: Global,
     table: Table<'_>,
     paths: &Paths,
     fault: TableFault,
-) -> Result<String, AllocError> {
+) -> Result<Pair, AllocError> {
     let n = fault.place();
     let x = table.code.get(n).copied().unwrap_or(Instruction::NONE);
-    let effect = effect_of(table, n, x);
-    let row = paths.row(n);
-    let found = stack(heap, row)?;
     match fault {
-        TableFault::IllFormed(_) => {
-            let rule = broken_rule(heap, table, n)?;
-            format!(in heap; "expected {rule}")
-        }
-        TableFault::NotAllowed(_) => {
-            let rule = allowed(heap, table, n, x)?;
-            format!(in heap; "expected {rule}")
-        }
-        TableFault::WrongStack(_) => {
-            let takes = taken(heap, table, n, effect.takes)?;
-            format!(in heap; "expected {takes}, found {found}")
-        }
-        TableFault::StackTooHigh(_) => {
-            let room = room_at(table, n);
-            let left = cells_of(row).saturating_sub(cells_taken(effect.takes));
-            let cells = left.saturating_add(cells_given(effect.gives));
-            format!(in heap; "expected at most {room} cells, found {cells}")
-        }
-        TableFault::StacksDiffer(_) => {
-            let other = stack(heap, paths.other.unwrap_or(row))?;
-            format!(in heap; "one path brings {found}, another {other}")
-        }
+        TableFault::IllFormed(_) => broken_rule(heap, table, n),
+        TableFault::NotAllowed(_) => not_allowed(heap, table, n, x),
+        TableFault::StackTooHigh(_) => too_high(heap, table, n, paths.row(n)),
         TableFault::PastTheEnd(_) => {
             let procedure = owner(table, n);
-            format!(in heap; "expected a next instruction, found the end of procedure {procedure}")
+            let expected = format!(in heap; "a next instruction in procedure {procedure}")?;
+            Ok((expected, format!(in heap; "the end of the procedure")?))
         }
-        TableFault::TooFewPlaces | TableFault::RowTooHigh(_) => format!(in heap; "found {found}"),
+        _ => {
+            let takes = effect_of(table, n, x).takes;
+            Ok((taken(heap, table, n, takes)?, stack(heap, paths.row(n))?))
+        }
     }
 }
 
-// What was expected and found, and then the refusal in words.
+// The two stacks that meet.
+fn add_stacks(heap: Global, notes: &mut Notes, paths: &Paths, n: usize) -> Result<(), AllocError> {
+    let came = paths.came(n);
+    let first = stack(heap, paths.row(n))?;
+    notes.add(
+        format!(in heap; "one path")?,
+        format!(in heap; "{first}, from instruction {came}")?,
+    )?;
+    if let Some(other) = paths.other {
+        let second = stack(heap, other.row)?;
+        let from = other.from;
+        notes.add(
+            format!(in heap; "another")?,
+            format!(in heap; "{second}, from instruction {from}")?,
+        )?;
+    }
+    Ok(())
+}
+
+// The fault in words, the line of the text at fault, and what was expected and found there.
 pub(crate) fn why(
     heap: Global,
+    text: &[u8],
     table: Table<'_>,
     paths: &Paths,
     fault: TableFault,
 ) -> Result<String, AllocError> {
-    let number = fault.number();
-    let place = fault.place();
-    let expected = expected(heap, table, paths, fault)?;
-    let what = match fault {
-        TableFault::IllFormed(_) => "procedure",
-        _ => "instruction",
-    };
-    format!(in heap; "Refused: {expected}\n\n{what} {place}: {number}, {fault}\n")
+    let culprit = culprit(table, fault);
+    let mut notes = Notes::under(heap, head(heap, table, culprit, fault.number())?);
+    notes.add(format!(in heap; "fault")?, format!(in heap; "{fault}")?)?;
+    if let Some(line) = line_number(table, culprit) {
+        let words = quoted(heap, body_of(line_of(text, line)))?;
+        notes.add(format!(in heap; "line {line}")?, words)?;
+    }
+    if let TableFault::StacksDiffer(n) = fault {
+        add_stacks(heap, &mut notes, paths, n)?;
+        return notes.text(heap);
+    }
+    let (expected, found) = expected(heap, table, paths, fault)?;
+    notes.add(format!(in heap; "expected")?, expected)?;
+    notes.add(format!(in heap; "found")?, found)?;
+    notes.text(heap)
 }

@@ -5,9 +5,13 @@
 --   marks: the five marks of a call, from x up
 --   passes, passed: the working cell at x has kind t, and those from x up have these kinds
 --   settle, clear: the working cells from x up become data cells with their values, and data cells of these kinds without one
+--   settled: the data cell that a working cell becomes
+--   result_cell, opened: the cell for a result, if there is one, and all cells of a frame from its ent on
 --   enter: ent p q of procedure P
---   call: cup of P with n parameters, which begins at q and comes back to c
+--   marked: five marks are those of a call
+--   call, call_at: cup of P with n parameters, which begins at q and comes back to c
 --   back: the registers that a return to a stack of x cells takes from the marks
+--   result_in: the result that a cell holds
 --   return_value, return_plain: retf of a procedure with this result, and retp
 use Rattle.std.specs.Prelude.{ℕ, ◌+◌, ◌-◌, ◌&&◌, List, [], ◌∷◌, length, take, drop, pos, Some, None, Ok, Err, Option, nat_le, nat_lt}
 use Rattle.sheet.specs.declared.kind.Kind.{Kind}

@@ -1,9 +1,10 @@
 -- One step of the machine. Cited by the code of each instruction, by the dispatcher and by the promises on runs.
 -- What stops a step is tested in the order 63, 61, 60, 43, 41, 42, 45, 46, 47, 44, 62, then the host. Assumes nothing.
---   two .. mst: the instructions; PC becomes c, the next one, unless they say otherwise
+--   two .. retf: the instructions, each by its name; PC becomes c, the next one, unless they say otherwise
 --   perform: operation i, which is at n
---   fetched: the operation at a place in the code; no table has 4,097 instructions
---   step: one step of a table's run, or what ends it
+--   decoded, fetched: the operation that an instruction stands for, and the one at a place in the code; no table has 4,097
+--     instructions
+--   step: one step of a table's run, or what ends it; step_by, once the operation is known
 use Rattle.std.specs.Prelude.{ℕ, ◌+◌, cond, ℤ, pos, negsuc, Some, None, Ok, Err, Option, Result, nat_le, nat_lt}
 use Rattle.std.specs.List.{slice_get}
 use Rattle.sheet.specs.declared.instruction.Instruction.{Instruction}

@@ -62,3 +62,10 @@ impl<'a> Iterator for Lines<'a> {
         Some(line)
     }
 }
+
+// How many lines a text has; no list needs more places for what the lines hold.
+pub fn line_count(text: &[u8]) -> usize
+    ensures { result ≡ length (split text.now) }
+{
+    Lines::new(text).count()
+}

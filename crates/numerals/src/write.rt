@@ -5,6 +5,7 @@ ghost use Rattle.numerals.specs.Laws.{WrittenNumbersReadBack};
 use crate::read::WIDEST;
 
 // `n` at the end of 20 columns, and where it begins.
+#[tactic(auto, using(crate::proofs::Writing::last_columns, crate::proofs::Writing::last_place))]
 fn write_natural(mut n: u64) -> ([u8; WIDEST], usize)
     ensures place { result.1 + length (decimal n) ≡ 20 }
     ensures columns { result.0 ≡ replicate result.1 32 ++ decimal n }

@@ -1,4 +1,4 @@
--- Words on lists, cited by every file of this crate. Assumes nothing.
+-- Words on lists, cited throughout this crate. Assumes nothing.
 --   In: x is in the list
 --   All: P holds of each element
 --   Distinct: no number stands twice

@@ -1,2 +1,3 @@
 mod Fitting
 pub mod Reading
+pub mod Rooms

@@ -2,11 +2,13 @@
 -- A letter that is missing counts as a, and a negative operand as 0; the rules of operands allow neither where one is used.
 -- Assumes nothing.
 --   none, one, two: the kinds taken, the top first
---   next: goes on with the next instruction
+--   next, jumps, forks, calls: goes on with the next instruction, at a label, at either, and with a call and then the next
 --   halts: takes any stack and goes nowhere
 --   given: the result of a call, if any
 --   following: the next instruction's number, which is below 2 ^ 64
 --   successors: the instructions that a way leads to from instruction n, the label before the next one
+--   kind_in: the kind of a letter
+--   effect_of: the effect of an instruction of a table
 --   effect_by: the effect of a mnemonic as instruction n, with letters t and u and operands p and q
 use Rattle.std.specs.Prelude.{ℕ, ◌+◌, ◌^◌, cond, Some, None, Option, nat_lt}
 use Rattle.std.specs.Option.{unwrap_or}

@@ -4,7 +4,11 @@
 --   is_cell: offset q of a frame is a data cell; they lie at 5 to 4 + d
 --   kind_at: the kind of that data cell, if there is one
 --   ent_ok: ent is the first instruction of each procedure and stands nowhere else
+--   constant_ok, cell_ok, variable_ok, local_ok, address_ok, label_ok, call_ok, enter_ok: q, or p and q, are what each rule asks:
+--     a constant of the kind, a data cell of the kind, one or the result at 0, one of an ancestor, any of an ancestor, a label, a
+--     first instruction with so many parameters, the cells of a frame
 --   rule_ok: p and q name what the rule of the mnemonic asks, for an instruction of procedure o
+--   shape_ok, instruction_ok: an instruction has the letters and operands of its shape
 --   operand_fault: the lowest instruction that breaks a rule
 --   first_fault: a fault of the table, else of its operands
 use Rattle.std.specs.Prelude.{ℕ, ◌+◌, ◌-◌, Bool, true, false, cond, not, ◌&&◌, ◌||◌, leb, length, ℤ, pos, negsuc, is_some, Some, None, Option, ◌==◌, nat_le, nat_lt}

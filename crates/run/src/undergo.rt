@@ -51,6 +51,7 @@ fn make_all<S: Store, H: Host>(
 
 // Admits the table with these rows, begins, makes each call in turn and writes its answer into its place; a refusal leaves
 // everything as it was. What was undergone keeps the promise on runs, and equal counts leave equal states.
+#[tactic(auto, using(crate::proofs::Undergoing::by_answers))]
 pub fn undergo<'a, S: Store, H: Host>(
     table: Table<'a>,
     rows: &'a [Row],

@@ -1,8 +1,10 @@
 -- The operand shape of each mnemonic, cited by the table of shapes and by whatever reads it. Assumes nothing.
 --   mnemonics: all 38, in the order of their numbers
+--   bare, with_p, with_q, with_both: shapes, by the operands that are used
 --   name_of: its four columns
 --   shape_of: letters, whether p and q are used, and what they must name
 --   named: the mnemonic that a name of four columns stands for
+--   NamesAreApart: each mnemonic is found by its own name
 use Rattle.std.specs.Prelude.{◌≡◌, ℕ, true, false, List, [], ◌∷◌, Some, codes, Option}
 use Rattle.std.specs.List.{find}
 use Rattle.std.specs.Str.{bytes_eq}

@@ -1,7 +1,6 @@
 // The operand shape of each mnemonic: which letters it takes, whether it uses p and q, and what they must name.
-ghost use Rattle.std.specs.Prelude.{◌≡◌, bytes_eq};
+ghost use Rattle.std.specs.Prelude.{◌≡◌, bytes_eq, map};
 ghost use Rattle.std.specs.List.{find};
-ghost use Rattle.std.specs.Option.{option_map};
 ghost use Rattle.sheet.specs.Shapes.{shape_of, name_of, named, NamesAreApart};
 
 use crate::mnemonic::Mnemonic;
@@ -216,10 +215,10 @@ impl Mnemonic {
 }
 
 fn find_in(table: &[Entry], name: [u8; 4]) -> Option<Mnemonic>
-    ensures { result ≡ option_map (λ e. e.0) (find (λ e. bytes_eq e.1 name) table.now) }
+    ensures { result ≡ find (λ m. bytes_eq (name_of m) name) (map (λ e. e.0) table.now) }
 {
     table
         .iter()
-        .find(|entry| entry.1 == name)
         .map(|entry| entry.0)
+        .find(|mnemonic| mnemonic.name() == name)
 }

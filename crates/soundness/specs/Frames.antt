@@ -4,12 +4,16 @@
 --   operation_at: the operation of instruction n
 --   Form: what a cell is: free, a mark, a working cell or a data cell of a kind; a record that is no cell is free
 --   Lies: the cells from place x up have these forms
+--   entry_forms, row_forms, result_form, body_forms: the forms of an entry, of a row, of the cell for a result, and of what follows
+--     the marks
 --   frame_forms: the forms of a frame, from its place up: a data cell of the result's kind, or a mark if it has no result or is
 --     before its ent; four marks; before its ent working cells of the parameters' kinds, after it its data cells and the row
 --   Open: the open frames, each by its place, the instruction that it is at, its last cell, and whether it waits:
 --     the one at MP is at PC and ends at SP; below a frame lies its caller, at the place that the mark at offset 2 says,
 --     which waits at the cup before the number in the mark at offset 4, and ends just below it
 --   HasRow: the row of instruction n, or, of a caller that waits, the row of its cup without mark and parameters
+--   forms_at: the forms of the frame that instruction n runs in
+--   Linked: a frame is at place 0, or its marks lead to a caller lower down
 --   Holds: a frame holds its row and its declaration, and is at place 0 or has marks that lead to a caller lower down
 --   AllHold: there is a frame at PC, and every open frame holds
 --   OpenFramesLeadToPlace0: where all hold, one is open at MP, and from each the callers lead down to place 0

@@ -1,4 +1,5 @@
--- Small tables, judged, admitted and run by the definitions. Cited by the one proof over the list of them. Assumes nothing.
+-- Small tables, judged, admitted and run by the definitions. Cited by the one proof over the list of them and by the call that
+-- undergoes a list of calls. Assumes nothing.
 --   main, square: the procedure of each table, and the one that table C calls
 --   table_a, table_b, table_c: the tables; A and C by the room that their first ent leaves
 --   Finding: what comes of a table: a refusal with its number and place, or the rows of judge, which admit accepts, and what

@@ -1,4 +1,4 @@
--- What a write does to a store, read back. Cited by the makers of stores. Assumes nothing.
+-- What a write does to a store, read back. Cited by the maker of a store of records. Assumes nothing.
 --   AWriteReplacesOneCell: slot x then reads as the cell written, a free one where the record is no cell; every other
 --     slot reads as before; and the store is as long as before
 use Rattle.std.specs.Prelude.{◌≡◌, ℕ, ◌<◌, List, length, Ok, ◌≢◌}

@@ -1,7 +1,7 @@
 // The lists of a table.
 use columns::fault::TextFault;
 use columns::table_text::read_table;
-use numerals::lines::Lines;
+use numerals::lines::line_count;
 use sheet::instruction::Instruction;
 use sheet::kind::Kind;
 use sheet::procedure::Procedure;
@@ -18,7 +18,7 @@ pub struct Lists {
 impl Lists {
     // As a text gives them; it has no more records than lines.
     pub(crate) fn read(heap: Global, text: &[u8]) -> Result<Result<Lists, TextFault>, AllocError> {
-        let lines = Lines::new(text).count();
+        let lines = line_count(text);
         let mut procedures = vec![in heap; Procedure::NONE; lines]?;
         let mut cells = vec![in heap; Kind::Integer; lines]?;
         let mut code = vec![in heap; Instruction::NONE; lines]?;

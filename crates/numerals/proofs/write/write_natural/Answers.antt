@@ -1,11 +1,6 @@
 use Rattle.std.proofs.Common.{arith}
-use Rattle.numerals.proofs.Writing.{part_more, part_last, part_room}
+use Rattle.numerals.proofs.Writing.{part_more, part_room}
 use Rattle.numerals.proofs.write.write_natural.Goals as goal
-
-pub returns-then-n-eq0 : goal.returns-then-n-eq0
-returns-then-n-eq0 c =
-    let last = part_last c.loop-i.columns c.args.n c.loop-i.n c.loop-i.i (omega arith) (omega arith) c.if-n-eq0.true c.loop-i.invariant in
-    record { place = last.1; columns = last.0 }
 
 pub loop-i-preserved : goal.loop-i-preserved
 loop-i-preserved c = part_more c.loop-i.columns c.args.n c.loop-i.n c.loop-i.i (omega arith) (omega arith) c.if-n-eq0.false c.loop-i.invariant

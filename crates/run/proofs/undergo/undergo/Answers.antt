@@ -1,11 +1,11 @@
-use Rattle.std.proofs.Common.{◌<◌, ◌≤◌, length, arith}
+use Rattle.std.proofs.Common.{◌≤◌, length, arith}
 use Rattle.std.proofs.lemmas.Result.{err_from_is_err_and}
 use Rattle.soundness.proofs.Admits.{admitted_runs_stay_typed}
 use Rattle.soundness.proofs.Ground.{open_frames_lead_to_place_0}
 use Rattle.soundness.proofs.Runs.{equal_totals}
 use Rattle.soundness.proofs.SmallTables.{small_tables_come_out}
 use Rattle.run.proofs.Promising.{equal_counts}
-use Rattle.run.proofs.Undergoing.{by_table, by_answers, by_store, fits, by_all, by_promise, none_kept}
+use Rattle.run.proofs.Undergoing.{by_table, by_store, fits, by_all, by_promise, none_kept}
 use Rattle.run.proofs.undergo.undergo.Goals as goal
 
 pub returns-in_err-passed : goal.returns-in_err-passed
@@ -21,18 +21,20 @@ returns-in_err-passed g c =
       small = small_tables_come_out;
     }
 
-pub returns-then-answers-calls : goal.returns-then-answers-calls
-returns-then-answers-calls g c =
-    let few : length c.args.answers.now < length c.args.calls.now = omega arith in
-    record {
-      value = by_answers c.args.table c.args.rows c.args.calls.now (g.S.Store.cells c.args.store.now) (g.H.Host.means c.args.host.now) c.args.answers.now c.in_ok-passed.passed c.in_ok-passed.ensures.value few;
-      kept = tt;
-      law = equal_counts;
-      typed = admitted_runs_stay_typed;
-      frames = open_frames_lead_to_place_0;
-      totals = equal_totals;
-      small = small_tables_come_out;
-    }
+pub returns-then-answers-calls-clause-law : goal.returns-then-answers-calls-clause-law
+returns-then-answers-calls-clause-law g c = equal_counts
+
+pub returns-then-answers-calls-clause-typed : goal.returns-then-answers-calls-clause-typed
+returns-then-answers-calls-clause-typed g c = admitted_runs_stay_typed
+
+pub returns-then-answers-calls-clause-frames : goal.returns-then-answers-calls-clause-frames
+returns-then-answers-calls-clause-frames g c = open_frames_lead_to_place_0
+
+pub returns-then-answers-calls-clause-totals : goal.returns-then-answers-calls-clause-totals
+returns-then-answers-calls-clause-totals g c = equal_totals
+
+pub returns-then-answers-calls-clause-small : goal.returns-then-answers-calls-clause-small
+returns-then-answers-calls-clause-small g c = small_tables_come_out
 
 pub returns-in_err-run : goal.returns-in_err-run
 returns-in_err-run g c =

@@ -1,0 +1,5 @@
+pub mod Laws
+pub mod Parts
+pub mod Refusals
+pub mod SetOuts
+pub mod SmallTable
