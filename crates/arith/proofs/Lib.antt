@@ -1,5 +1,6 @@
 mod Dividing
 pub mod Patterns
+pub mod Proper
 mod Ranges
 mod Steps
 mod Truncating

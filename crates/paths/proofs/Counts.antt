@@ -1,8 +1,27 @@
 -- How many instructions have a row. Assumes nothing.
-use Rattle.std.proofs.Common.{◌≡◌, ℕ, zero, suc, ◌+◌, ◌↔◌, List, [], ◌∷◌, length, Some, None, Option, sym, refl, ap, subst, inl, inr, zero-add, arith}
+use Rattle.std.proofs.Common.{◌≡◌, ℕ, zero, suc, ◌+◌, ◌<◌, ◌≤◌, ◌↔◌, List, [], ◌∷◌, length, set, replicate, Some, None, Option, sym, refl, ap, subst, inl, inr, le_of_suc-le-suc, not-suc-le-zero, zero-add, arith}
 use Rattle.std.proofs.lemmas.Option.{none-some}
 use Rattle.paths.specs.Lists.{In, Distinct, Exactly}
 use Rattle.paths.specs.Rows.{Rows, row_at, count}
+
+-- a loop that counts as it goes: none at first, one more with each row taken, none with a row replaced
+pub count_none : (R : Type 0) (n : ℕ) → count {R = R} (replicate n None) ≡ 0
+count_none R zero = refl
+count_none R (suc n) = count_none R n
+
+pub count_taken : {R : Type 0} (rows : Rows R) (j : ℕ) (s : R) → j < length rows → row_at rows j ≡ None → count (set rows j (Some s)) ≡ suc (count rows)
+count_taken [] j s h e = absurd (not-suc-le-zero h)
+count_taken (None ∷ rows) zero s h e = refl
+count_taken (Some r ∷ rows) zero s h e = absurd (none-some r (sym e))
+count_taken (None ∷ rows) (suc j) s h e = count_taken rows j s (le_of_suc-le-suc h) e
+count_taken (Some r ∷ rows) (suc j) s h e = ap suc (count_taken rows j s (le_of_suc-le-suc h) e)
+
+pub count_replaced : {R : Type 0} (rows : Rows R) (j : ℕ) (q s : R) → row_at rows j ≡ Some q → count (set rows j (Some s)) ≡ count rows
+count_replaced [] j q s e = refl
+count_replaced (None ∷ rows) zero q s e = absurd (none-some q e)
+count_replaced (Some r ∷ rows) zero q s e = refl
+count_replaced (None ∷ rows) (suc j) q s e = count_replaced rows j q s e
+count_replaced (Some r ∷ rows) (suc j) q s e = ap suc (count_replaced rows j q s e)
 
 -- a loop that counts over the rows in place
 pub count_skip : {R : Type 0} (rows : Rows R) (n : ℕ) (o : Option R) → o ≡ None → n + count (o ∷ rows) ≡ n + count rows
@@ -12,6 +31,11 @@ count_skip rows n (Some r) e = absurd (none-some r (sym e))
 pub count_one : {R : Type 0} (rows : Rows R) (n : ℕ) (o : Option R) (r : R) → o ≡ Some r → n + count (o ∷ rows) ≡ n + 1 + count rows
 count_one rows n None r e = absurd (none-some r e)
 count_one rows n (Some q) r e = omega arith
+
+pub count_short : {R : Type 0} (rows : Rows R) → count rows ≤ length rows
+count_short [] = omega arith
+count_short (None ∷ rows) = let h = count_short rows in omega arith
+count_short (Some r ∷ rows) = let h = count_short rows in omega arith
 
 -- the instructions that have a row, the first numbered k
 places : {R : Type 0} → ℕ → Rows R → List ℕ

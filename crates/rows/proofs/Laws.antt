@@ -1,9 +1,9 @@
-use Rattle.std.proofs.Common.{◌≡◌, ℕ, zero, suc, ◌+◌, ◌-◌, ◌<◌, ◌≤◌, Bool, true, false, cond, ◌&&◌, T, eqb, leb, List, [], ◌∷◌, ◌++◌, map, length, get_or, take, drop, replicate, Decides, sym, refl, ap, ◌∙◌, le_of_suc-le-suc, not-suc-le-zero, arith}
+use Rattle.std.proofs.Common.{◌≡◌, ℕ, zero, suc, ◌+◌, ◌-◌, ◌<◌, ◌≤◌, Bool, true, false, cond, ◌&&◌, T, eqb, leb, List, [], ◌∷◌, ◌++◌, map, length, get_or, take, drop, set, replicate, Some, None, Decides, sym, refl, ap, ◌∙◌, le_of_suc-le-suc, not-suc-le-zero, arith}
 use Rattle.std.proofs.Math.Bool.{and_assoc}
 use Rattle.std.proofs.lemmas.Bool.Decides.{same_from_decides}
 use Rattle.std.proofs.lemmas.Slice.Eq.{bytes_eq-Decides}
-use Rattle.std.proofs.lemmas.Bool.{eq-eqb, ltb-true, ne_eqb, eqb-true, and_parts, and_from, cond_both, le-leb, leb-true}
-use Rattle.std.proofs.lemmas.List.{at_drop_more, length-take-le, length-drop, take-append-drop}
+use Rattle.std.proofs.lemmas.Bool.{eq-eqb, ltb-true, ne_eqb, eqb-true, and_parts, and_from, cond-true, cond_both, le-leb, leb-true}
+use Rattle.std.proofs.lemmas.List.{take_more_set, map_push, drop-set-lt, drop_more, take-set, take-map, take-take, drop-set, at_drop_more, length-take-le, length-drop, take-append-drop}
 use Rattle.rows.specs.declared.row.Row.{Row}
 use Rattle.sheet.specs.declared.kind.Kind.TheVariants.{Address, Boolean, Character, Integer, Real}
 use Rattle.rows.specs.declared.entry.Entry.{Entry}
@@ -13,7 +13,7 @@ use Rattle.std.specs.Cmp.Lexicographic.{pointwise}
 use Rattle.std.proofs.lemmas.Slice.Eq.{slice_eq-Decides}
 use Rattle.std.proofs.lemmas.Bool.Decides.{Decides-eqb}
 use Rattle.rows.specs.Entries.{entry_of, proper, byte_of}
-use Rattle.rows.specs.Rows.{every, entries, blanks, is_row, same, equal_records, EqualRecordsAreOne}
+use Rattle.rows.specs.Rows.{every, entries, blanks, is_row, bottom_up, same, equal_records, EqualRecordsAreOne}
 
 pub every_append : {X : Type 0} (p : X → Bool) (xs ys : List X) → every p (xs ++ ys) ≡ (every p xs && every p ys)
 every_append p [] ys = refl
@@ -34,6 +34,14 @@ entry_code (Mark m) h =
     let r : eqb m 114 ≡ false = ne_eqb m 114 (λ e. omega arith) in
     simp (a, b, c, i, r)
 
+-- a record whose three tests pass means its entries
+pub means : (r : Row) → r.len ≤ 40 → every proper (entries r) ≡ true → blanks (drop r.len r.bytes) ≡ true
+    → bottom_up r ≡ Some (entries r)
+means r l p b =
+    cond-true (is_row r) (Some (entries r)) None
+    (and_from (leb r.len 40) (every proper (entries r) && blanks (drop r.len r.bytes)) (le-leb r.len 40 l)
+    (and_from (every proper (entries r)) (blanks (drop r.len r.bytes)) p b))
+
 pub valid_proper : (r : Row) → is_row r ≡ true → every proper (entries r) ≡ true
 valid_proper r v =
     (and_parts (every proper (entries r)) (blanks (drop r.len r.bytes))
@@ -43,6 +51,50 @@ pub valid_blank : (r : Row) → is_row r ≡ true → blanks (drop r.len r.bytes
 valid_blank r v =
     (and_parts (every proper (entries r)) (blanks (drop r.len r.bytes))
     (and_parts (leb r.len 40) (every proper (entries r) && blanks (drop r.len r.bytes)) v).1).1
+
+pub push_entries : (n b : ℕ) (xs : List ℕ) (e : Entry) → n < length xs → entry_of b ≡ e
+    → map entry_of (take (n + 1) (set xs n b)) ≡ map entry_of (take n xs) ++ e ∷ []
+push_entries n b xs e l q =
+    ap (λ ys. map entry_of ys) (take_more_set xs n b l) ∙ map_push entry_of (take n xs) b ∙ ap (λ f. map entry_of (take n xs) ++ f ∷ []) q
+
+pub push_means : (n b : ℕ) (xs : List ℕ) (e : Entry) → length xs ≡ 40 → n < 40
+    → is_row (record { len = n; bytes = xs }) ≡ true → proper e ≡ true → b ≡ byte_of e
+    → bottom_up (record { len = n + 1; bytes = set xs n b }) ≡ Some (map entry_of (take n xs) ++ e ∷ [])
+push_means n b xs e k l v p q =
+    let h : n < length xs = omega arith in
+    let h' : n < n + 1 = omega arith in
+    let le : n + 1 ≤ 40 = omega arith in
+    let en : map entry_of (take (n + 1) (set xs n b)) ≡ map entry_of (take n xs) ++ e ∷ []
+    = push_entries n b xs e h (ap entry_of q ∙ entry_code e p) in
+    let pr : every proper (map entry_of (take (n + 1) (set xs n b))) ≡ true
+    = ap (every proper) en ∙ every_append proper (map entry_of (take n xs)) (e ∷ [])
+    ∙ and_from (every proper (map entry_of (take n xs))) (proper e && true) (valid_proper (record { len = n; bytes = xs }) v) (and_from (proper e) true p refl) in
+    let bl : blanks (drop (n + 1) (set xs n b)) ≡ true
+    = ap blanks (drop-set-lt (n + 1) xs n b h')
+    ∙ (and_parts (eqb (get_or xs n 0) 0) (blanks (drop (n + 1) xs))
+    (sym (ap blanks (drop_more xs n 0 h)) ∙ valid_blank (record { len = n; bytes = xs }) v)).1 in
+    means (record { len = n + 1; bytes = set xs n b }) le pr bl ∙ ap Some en
+
+pub every_take : {X : Type 0} (p : X → Bool) (m : ℕ) (xs : List X) → every p xs ≡ true → every p (take m xs) ≡ true
+every_take p zero xs h = refl
+every_take p (suc m) [] h = refl
+every_take p (suc m) (x ∷ xs) h =
+    let q = and_parts (p x) (every p xs) h in and_from (p x) (every p (take m xs)) q.0 (every_take p m xs q.1)
+
+pub pop_means : (n : ℕ) (xs : List ℕ) → length xs ≡ 40 → n ≤ 40 → 0 < n → is_row (record { len = n; bytes = xs }) ≡ true
+    → bottom_up (record { len = n - 1; bytes = set xs (n - 1) 0 }) ≡ Some (take (n - 1) (map entry_of (take n xs)))
+pop_means n xs k l z v =
+    let h : n - 1 < length xs = omega arith in
+    let le : n - 1 ≤ 40 = omega arith in
+    let ln : n - 1 ≤ n = omega arith in
+    let e : n - 1 + 1 ≡ n = omega arith in
+    let en : map entry_of (take (n - 1) (set xs (n - 1) 0)) ≡ take (n - 1) (map entry_of (take n xs))
+    = ap (map entry_of) (take-set xs (n - 1) 0 ∙ sym (take-take (n - 1) n xs ln)) ∙ sym (take-map entry_of (n - 1) (take n xs)) in
+    let pr : every proper (map entry_of (take (n - 1) (set xs (n - 1) 0))) ≡ true
+    = ap (every proper) en ∙ every_take proper (n - 1) (map entry_of (take n xs)) (valid_proper (record { len = n; bytes = xs }) v) in
+    let bl : blanks (drop (n - 1) (set xs (n - 1) 0)) ≡ true
+    = ap blanks (drop-set xs (n - 1) 0 h) ∙ ap (λ m. blanks (drop m xs)) e ∙ valid_blank (record { len = n; bytes = xs }) v in
+    means (record { len = n - 1; bytes = set xs (n - 1) 0 }) le pr bl ∙ ap Some en
 
 -- equal meanings of rows are equal records
 every_zero : (xs : List ℕ) → blanks xs ≡ true → xs ≡ replicate (length xs) 0
@@ -109,6 +161,19 @@ invalid r p = by (leb r.len 40) (every proper (entries r)) p
     by : (a b : Bool) → b ≡ false → (a && (b && blanks (drop r.len r.bytes))) ≡ false
     by false b e = refl
     by true b e = ap (λ x. x && blanks (drop r.len r.bytes)) e
+
+-- a row's bottom-up says that it is is_row, and what its entries are
+pub means_valid : (r : Row) (es : List Entry) → bottom_up r ≡ Some es → (is_row r ≡ true) × (entries r ≡ es)
+means_valid r es e = by (is_row r) (entries r) es e
+  where
+    by : (b : Bool) (xs ys : List Entry) → cond b (Some xs) None ≡ Some ys → (b ≡ true) × (xs ≡ ys)
+    by true xs ys q = (refl, cc)
+    by false xs ys q = let z : ◌≡◌ {A = ℕ} 0 1 = cc in let no_way : ⊥ = omega arith in absurd no_way
+
+pub push_valid : (n b : ℕ) (xs : List ℕ) (e : Entry) → length xs ≡ 40 → n < 40
+    → is_row (record { len = n; bytes = xs }) ≡ true → proper e ≡ true → b ≡ byte_of e
+    → (is_row (record { len = n + 1; bytes = set xs n b }) ≡ true) × (entries (record { len = n + 1; bytes = set xs n b }) ≡ map entry_of (take n xs) ++ e ∷ [])
+push_valid n b xs e k l v p q = means_valid (record { len = n + 1; bytes = set xs n b }) (map entry_of (take n xs) ++ e ∷ []) (push_means n b xs e k l v p q)
 
 -- records that are rows, with the same bytes in front are the same record
 pub same_record : (a b : Row) → length a.bytes ≡ 40 → length b.bytes ≡ 40 → is_row a ≡ true → is_row b ≡ true

@@ -1,6 +1,7 @@
 -- What a row record means: a stack, or nothing (unreached). Cited by rows and by the verifier. Assumes nothing.
 --   entries: the entries before its length, the bottom first
 --   is_row: whether the record is a row
+--   bottom_up: the stack that it holds, the bottom first
 --   meaning: the stack that it holds, the top first
 --   equal_records: whether two records have the same length and the same bytes
 --   EqualRecordsAreOne: such records are the same record, and the other way round; of two rows it says whether they are the
@@ -27,6 +28,9 @@ blanks xs = every (λ b. nat_eq b 0) xs
 -- at most forty entries, each proper, and nothing behind them
 abbrev pub is_row : Row → Bool
 is_row r = nat_le r.len 40 && (every proper (entries r) && blanks (drop r.len r.bytes))
+
+abbrev pub bottom_up : Row → Option (List Entry)
+bottom_up r = cond (is_row r) (Some (entries r)) None
 
 abbrev pub meaning : Row → Option (List Entry)
 meaning r = cond (is_row r) (Some (reverse (entries r))) None

@@ -149,8 +149,8 @@ const PROCEDURE: Shape = Shape {
 #[derive(Clone, Copy, Drop)]
 struct Entry(Mnemonic, [u8; 4], Shape);
 
-// By the number of the mnemonic.
-const TABLE: [Entry; 38] = [
+// By the number of the mnemonic. A static, since a constant would be laid out anew wherever it is looked up.
+static TABLE: [Entry; 38] = [
     Entry(Mnemonic::Add, *b"add ", NUMERIC),
     Entry(Mnemonic::Sub, *b"sub ", NUMERIC),
     Entry(Mnemonic::Mul, *b"mul ", NUMERIC),

@@ -11,7 +11,7 @@ use Rattle.machine.specs.Frames.{passed, settled, settle, clear}
 use Rattle.machine.proofs.Lengths.{length_put}
 use Rattle.soundness.proofs.Rules.{laid}
 use Rattle.soundness.proofs.Invariant.{Sort, is_work, is_data, sort, Stands, row_sorts}
-use Rattle.soundness.proofs.Cells.{peek_put_other, sort_data, of_kind_is, work_is, working_is, stands_push}
+use Rattle.soundness.proofs.Cells.{peek_put_other, sort_data, of_kind_is, work_is, working_is, stands_above, stands_push}
 
 -- the cells from place x up have the sorts f of these kinds
 abbrev pub LiesAt : (Kind → Sort) → List Cell → List Kind → ℕ → Type 0
@@ -49,6 +49,11 @@ passed_is (t ∷ ts) x cs h = let w = working_is t (peek cs x) h.0 in rw (w.1, o
 
 pub settled_is : (t : Kind) (c : Cell) → sort c ≡ is_work t → sort (settled c) ≡ is_data t
 settled_is t c e = let w = work_is t c e in ap sort (ap settled w.1) ∙ sort_data t w.0 w.2
+
+pub clear_keeps : (ts : List Kind) (x : ℕ) (cs : List Cell) (K : List Sort) → length K ≤ x → Stands cs K → Stands (clear ts x cs) K
+unfolding clear
+clear_keeps [] x cs K l h = h
+clear_keeps (t ∷ ts) x cs K l h = clear_keeps ts (x + 1) (put cs x (Blank t)) K (omega arith) (stands_above cs K x (Blank t) l h)
 
 pub settle_stands : (ts : List Kind) (x : ℕ) (cs : List Cell) (K : List Sort) → x ≡ length K → x + length ts ≤ length cs → Stands cs K → LiesAt is_work cs ts x → Stands (settle ts x cs) (laid is_data ts K)
 unfolding settle

@@ -1,11 +1,11 @@
 -- A step keeps the length of the store and NP.
-use Rattle.std.proofs.Common.{◌≡◌, ℕ, ◌+◌, ◌-◌, ◌&&◌, ltb, leb, List, length, pos, Ok, Err, Option, Result, sym, refl, ap, ◌∙◌, subst, arith}
+use Rattle.std.proofs.Common.{◌≡◌, ℕ, ◌+◌, ◌-◌, ◌&&◌, ltb, leb, List, length, pos, Some, None, Ok, Err, Option, Result, sym, refl, ap, ◌∙◌, subst, arith}
 use Rattle.sheet.specs.declared.kind.Kind.{Kind}
 use Rattle.sheet.specs.declared.operation.Binary.{Binary}
 use Rattle.sheet.specs.declared.operation.Unary.{Unary}
 use Rattle.sheet.specs.declared.place.CodePlace.{CodePlace}
 use Rattle.sheet.specs.declared.procedure.Procedure.{Procedure}
-use Rattle.sheet.specs.declared.stop.Stop.TheVariants.{NoDataCell, OtherKindOfCell, WrongCell, WrongMark, StackFull, StoreFull}
+use Rattle.sheet.specs.declared.stop.Stop.TheVariants.{NoDataCell, OtherKindOfCell, WrongCell, WrongMark, StackFull, StoreFull, OutsideCode}
 use Rattle.sheet.specs.declared.value.Value.{Value}
 use Rattle.sheet.specs.declared.value.Value.TheVariants.{Address}
 use Rattle.sheet.specs.Tables.{Contents}
@@ -179,9 +179,17 @@ perform_keeps T n Retf s = stops (step.retf T n s) (value_keeps (procedure_at T 
 perform_keeps T n Retp s = stops (frame.return_plain s) (plain_keeps s)
 perform_keeps T n Hlt s = λ t q. never Halted t q
 
+by_keeps : (T : Contents) (n : ℕ) (i : Option Operation) (s : State) → Holds s (step.step_by T n i s)
+by_keeps T n None s = λ t q. never (Stopped OutsideCode) t q
+by_keeps T n (Some i) s = perform_keeps T n i s
+
 left : (s t : State) (r : Result (Unit {0}) Ending) (a : Result State Ending) → Holds s a → gives r t ≡ ended s a → Kept s t
 left s t r (Ok u) k e = let q : t ≡ u = ap (λ (o : Outcome Ending). o.state) e in k t (ap Ok (sym q))
 left s t r (Err w) k e = let q : t ≡ s = ap (λ (o : Outcome Ending). o.state) e in subst (λ (x : State). Kept s x) (sym q) (record { long = refl; last = refl })
+
+-- of the definition of a step, whatever carries it out
+pub step_keeps : (T : Contents) (s t : State) (r : Result (Unit {0}) Ending) → gives r t ≡ ended s (step.step T s) → Kept s t
+step_keeps T s t r e = left s t r (step.step T s) (by_keeps T (natural s.regs.pc.0) (step.fetched T s.regs.pc.0) s) e
 
 pub perform_leaves : {S : Type 0} (cells : S → List Cell) (T : Contents) (n : ℕ) (i : Operation) {before after : Machine S} {h k : Meaning} {r : Result (Unit {0}) Ending}
     → CarriesOutWith cells r before h after k (step.perform T n i) → Kept (state_of cells before h) (state_of cells after k)

@@ -52,7 +52,7 @@ impl Store for Packed<'_> {
     {
         // By index, since `get_mut` does not tell what a list ends as.
         let i = x.0 as usize;
-        if i >= self.len() {
+        if i >= self.codes.len() || i >= self.words.len() {
             return Err(PastTheEnd);
         }
         let pair = encode(c);

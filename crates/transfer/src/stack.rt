@@ -139,7 +139,10 @@ impl<'a> Entries<'a> {
                 self.pile.push(Entry::Value(kind))?;
             }
             Gives::Mark(links) => {
-                let links = u8::try_from(links).map_err(|_| Breach::WrongStack)?;
+                let links = u8::try_from(links)
+                    .ok()
+                    .filter(|links| *links < 8)
+                    .ok_or(Breach::WrongStack)?;
                 self.pile.push(Entry::Mark(links))?;
             }
         }

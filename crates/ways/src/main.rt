@@ -7,7 +7,7 @@ mod yard;
 
 use crate::drive::{Ended, drive};
 use crate::yard::Yard;
-use anyhow::Context;
+use anyhow::anyhow;
 use columns::value_line::write_value;
 use columns::value_text::read_values;
 use host::host::Host;
@@ -81,7 +81,7 @@ impl Way<'_> {
     fn with_lists(&self, typed: &[u8]) -> anyhow::Result<()> {
         let heap = self.rt.alloc();
         let mut input = vec![in heap; Value::Integer(0); VALUES]?;
-        let n = read_values(typed, &mut input).context("the values are refused")?;
+        let n = read_values(typed, &mut input).map_err(|_| anyhow!("the values are refused"))?;
         input.truncate(n);
         let mut output = vec![in heap; Value::Integer(0); VALUES]?;
         let mut host = Lists::over(&input, &mut output);
@@ -95,7 +95,9 @@ impl Way<'_> {
     // Lines of values typed, lines of values written.
     fn with_lines(&self, typed: &[u8]) -> anyhow::Result<()> {
         let mut output = vec![in self.rt.alloc(); 0u8; BYTES]?;
-        let mut host = Lines::over(typed, &mut output).context("the values are refused")?;
+        let mut host = Lines::over(typed, &mut output).map_err(|_| anyhow!(
+            "the values are refused"
+        ))?;
         let ended = self.drive(&mut host)?;
         self.rt.stdout().write_all(host.text())?;
         show(self.rt, ended)

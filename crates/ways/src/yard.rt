@@ -1,6 +1,6 @@
 // A yard's table, read and judged.
 use admit::{Passed, admit};
-use anyhow::Context;
+use anyhow::anyhow;
 use columns::table_text::Extent;
 use prepare::prepare::prepare;
 use rows::row::Row;
@@ -36,7 +36,8 @@ impl Yard {
             &mut rows,
             &mut places,
         )
-        .context("the table is refused")?;
+        // not `context`, here and below: it would print the cause too
+        .map_err(|_| anyhow!("the table is refused"))?;
         Ok(Yard {
             extent: prepared.extent,
             procedures,
@@ -51,6 +52,6 @@ impl Yard {
         let table = self
             .extent
             .table_in(&self.procedures, &self.cells, &self.code);
-        admit(table, &self.rows).context("the rows are refused")
+        admit(table, &self.rows).map_err(|_| anyhow!("the rows are refused"))
     }
 }
